@@ -1,0 +1,11 @@
+pub mod Agree
+pub mod Rows
+pub mod CellLemmas
+pub mod PastLemmas
+pub mod WellFormed
+pub mod MemoryLemmas
+pub mod OneScan
+pub mod Exists
+pub mod Traces
+pub mod MapsLaw
+pub mod Examples

@@ -1,0 +1,10 @@
+pub mod Allowed
+pub mod Cells
+pub mod Fits
+pub mod Laws
+pub mod Memory
+pub mod Past
+pub mod Proper
+pub mod Reading
+pub mod Refines
+pub mod Value
