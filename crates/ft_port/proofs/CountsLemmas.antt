@@ -1,5 +1,5 @@
 -- The counts of names after one of them changed.
-use Rattle.std.proofs.Common.{◌≡◌, ◌≢◌, ◌∙◌, sym, ap, refl, subst, inl, inr, nat_lt, ℕ, zero, suc, ◌+◌, ◌<◌, ◌≤◌, Bool, true, false, cond, List, [], ◌∷◌, map, set, length, take, Option, Some, None, slice_get, slice_index_or, arith}
+use Rattle.std.proofs.Common.{◌≡◌, ◌≢◌, ◌∙◌, sym, ap, refl, subst, inl, inr, nat_lt, ℕ, zero, suc, ◌<◌, ◌≤◌, true, false, cond, List, [], ◌∷◌, map, set, length, take, Some, None, slice_get, slice_index_or, arith}
 use Rattle.std.specs.Str.{bytes_eq}
 use Rattle.std.specs.List.{Contains, find, position, position_or_len}
 use Rattle.std.proofs.lemmas.Bool.{cases_Bool}
@@ -11,7 +11,7 @@ use Rattle.std.proofs.lemmas.List.Quantifiers.{position-Some}
 use Rattle.std.proofs.lemmas.List.Sums.{position_or_len_is, fails_before_first}
 use Rattle.std.proofs.Math.Seq.{map-set_same}
 use Rattle.ft_port.specs.declared.entry.Entry.{Entry}
-use Rattle.ft_port.specs.Counts.{is_of, names_of, reach_by, faults_by, unread, AreUnread}
+use Rattle.ft_port.specs.Counts.{is_of, names_of, unread, AreUnread}
 
 bytes_eq-other : (xs ys zs : List ℕ) → bytes_eq xs ys ≡ true → zs ≢ ys → bytes_eq xs zs ≡ false
 bytes_eq-other xs ys zs same differs = grind (arith, bytes_eq-Decides)

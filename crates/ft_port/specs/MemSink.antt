@@ -1,5 +1,5 @@
 -- A sink in memory.
-use Rattle.std.specs.Prelude.{◌⊎◌, ℕ, ◌<◌, min, List, length, Option, IsSome, ◌==◌, unwrap_or}
+use Rattle.std.specs.Prelude.{◌⊎◌, ℕ, ◌<◌, min, List, Option, IsSome, ◌==◌, unwrap_or}
 use Rattle.std.specs.List.{find}
 use Rattle.std.specs.Option.{option_map}
 use Rattle.ft_port.specs.Causes.{one_more}

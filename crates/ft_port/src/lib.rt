@@ -11,6 +11,8 @@ mod mem_sink;
 mod out_sink;
 mod shelf;
 mod sink;
+#[cfg(test)]
+mod tests;
 
 pub use fetching::{FetchError, fetch};
 pub use file_shelf::FileShelf;
