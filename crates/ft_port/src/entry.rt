@@ -1,0 +1,44 @@
+ghost use Rattle.std.specs.Prelude.{◌≡◌, IfOk, OnOk, OnErr};
+ghost use Rattle.ft_port.specs.Causes.{HasCause, one_more};
+ghost use Rattle.ft_port.specs.Counts.{unread};
+ghost use Rattle.ft_port.specs.Shelf.{Reaches};
+
+use crate::shelf::Failed;
+use ft_base::{List, NoMemory, Text};
+use std::alloc::Global;
+
+/// A name, how far the reads of it came, and how many of them failed.
+#[derive(Drop)]
+pub struct Entry {
+    pub name: Text,
+    pub reach: u64,
+    pub faults: u64,
+}
+
+impl Entry {
+    /// A copy of this name, before its first read.
+    pub fn unread(alloc: Global, name: &[u8]) -> Result<Entry, NoMemory>
+        ensures { IfOk result (λ entry. entry ≡ unread name.now) }
+    {
+        Ok(Entry {
+            name: List::copy_of(alloc, name)?,
+            reach: 0,
+            faults: 0,
+        })
+    }
+
+    /// Notes what a read from `place` on gave.
+    pub fn note(&mut self, place: u64, given: Result<usize, Failed>)
+        ensures name { self.new.name ≡ self.old.name }
+        ensures reach { Reaches self.old.reach self.new.reach place given }
+        ensures cause { HasCause self.old.faults self.new.faults given }
+        ensures kept { OnOk given (self.new.faults ≡ self.old.faults) }
+        ensures risen { OnErr given (self.new.faults ≡ one_more self.old.faults) }
+    {
+        match given {
+            Ok(0) => {}
+            Ok(count) => self.reach = self.reach.max(place.saturating_add(count as u64)),
+            Err(Failed) => self.faults = self.faults.saturating_add(1),
+        }
+    }
+}

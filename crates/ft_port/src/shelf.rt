@@ -1,0 +1,34 @@
+ghost use Rattle.std.specs.Prelude.{◌≡◌, ℕ, List, Option};
+ghost use Rattle.std.specs.List.{Contains};
+ghost use Rattle.ft_port.specs.Causes.{HasCause};
+ghost use Rattle.ft_port.specs.Shelf.{ReadsFrom, Reaches, OthersStay};
+
+/// A read or a write was refused by the outside.
+#[derive(Clone, Copy, Debug, PartialEq, Eq, Drop)]
+pub struct Failed;
+
+/// Files under names. It counts the faults of each name.
+pub trait Shelf {
+    /// The names that it was made for.
+    ghost names: { Self → List (List ℕ) };
+
+    /// What it holds under a name, where it tells that.
+    ghost told: { Self → List ℕ → Option (List ℕ) };
+
+    /// The greatest `place + n` of a read of this name that gave n > 0 bytes; 0 before the first.
+    ghost reach: { Self → List ℕ → ℕ };
+
+    /// How many reads of this name failed.
+    ghost faults: { Self → List ℕ → ℕ };
+
+    /// Fills the front of `into` with the bytes of the file from `place` on, and tells how many these are. None
+    /// are given at the file's end or past it, and into an empty `into`. It takes no memory.
+    fn read(&mut self, name: &str, place: u64, into: &mut [u8]) -> Result<usize, Failed>
+        requires { Contains (names self.old) name.now }
+        ensures bytes { ReadsFrom (told self.old name.now) place result into.new }
+        ensures reach { Reaches (reach self.old name.now) (reach self.new name.now) place result }
+        ensures cause { HasCause (faults self.old name.now) (faults self.new name.now) result }
+        ensures others { OthersStay name.now (reach self.old) (reach self.new) (faults self.old) (faults self.new) }
+        ensures names { names self.new ≡ names self.old }
+        ensures told { told self.new ≡ told self.old };
+}
