@@ -1,0 +1,8 @@
+use Rattle.std.proofs.Common.{◌≡◌, false, take}
+use Rattle.std.specs.List.{list_any}
+use Rattle.std.specs.Str.{bytes_eq}
+use Rattle.ft_lex.proofs.words.is_one_of.Given as goal
+
+-- no word before this one is it
+abbrev pub invariant-loop-other : goal.invariant-loop-other
+invariant-loop-other l = list_any (λ other. bytes_eq l.word other.now) (take l.other-index l.words) ≡ false

@@ -1,0 +1,13 @@
+//! The tokens of a set's text: names, numbers, reserved words and signs, each with its place.
+#![tactic(auto)]
+
+mod places;
+mod reading;
+mod shapes;
+mod space;
+mod token;
+mod words;
+
+pub use reading::tokens;
+pub use token::{Token, TokenKind};
+pub use words::is_reserved;
