@@ -1,0 +1,17 @@
+use Rattle.std.proofs.Common.{◌∙◌, sym, ap}
+use Rattle.ft_cli.specs.Form.{rows_lexemes}
+use Rattle.ft_cli.proofs.FormLemmas.{rows-none, rows-more, row-longer}
+use Rattle.ft_cli.proofs.reader.rows.Goals as goal
+
+pub loop-cursor-init : goal.loop-cursor-init
+loop-cursor-init c = rw c.new-found.ensures (sym (rows-none c.args.read.now c.args.cursor.now))
+
+pub loop-cursor-preserved : goal.loop-cursor-preserved
+loop-cursor-preserved c =
+    c.loop-cursor.invariant
+    ∙ ap (rows_lexemes c.args.read.now c.loop-cursor.found) c.in_ok-row.ensures
+    ∙ sym (rows-more c.args.read.now c.loop-cursor.found c.in_ok-row.row c.row.new.cursor)
+    ∙ ap (λ found. rows_lexemes c.args.read.now found c.row.new.cursor) (sym c.in_ok-push.ensures.ok)
+
+pub loop-cursor-smaller : goal.loop-cursor-smaller
+loop-cursor-smaller c = row-longer c.args.read.now c.in_ok-row.row c.row.new.cursor c.loop-cursor.cursor c.in_ok-row.ensures

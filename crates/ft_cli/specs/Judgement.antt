@@ -1,0 +1,78 @@
+-- What a report says of the bytes of a set.
+use Rattle.std.specs.Prelude.{◌≡◌, ◌⊎◌, ℕ, ◌+◌, ◌<◌, ℤ, pos, ◌+ℤ◌, ◌<ℤ◌, List, ◌++◌, [], ◌∷◌, length, slice_get, codes, Option, Some, None}
+use Rattle.ft_core.specs.declared.tables.Tables.{Tables}
+use Rattle.ft_core.specs.declared.tables.Table.{Table}
+use Rattle.ft_core.specs.declared.tables.Var.{Var}
+use Rattle.ft_core.specs.declared.tables.Grid.{Grid}
+use Rattle.ft_core.specs.declared.tables.Grid.TheVariants.{Normal, Inverted, Vector}
+use Rattle.ft_core.specs.Kinds.{monitored, inputs, outputs}
+use Rattle.ft_core.specs.Grids.{defines}
+use Rattle.ft_mean.specs.Reading.{IsVar}
+use Rattle.ft_mean.specs.Allowed.{Allowed}
+use Rattle.ft_mean.specs.Proper.{IsProper, AllProper}
+use Rattle.ft_mean.specs.Refines.{Refines, FirstDiffers}
+use Rattle.ft_cli.specs.FormSet.{Spells}
+use Rattle.ft_cli.specs.Report.{section_word}
+use Rattle.ft_cli.specs.declared.report.Report.{Report}
+use Rattle.ft_cli.specs.declared.report.Report.TheVariants as report
+
+-- the range has more than 100,000 values
+abbrev pub IsLarge : ℤ × ℤ → Type 0
+IsLarge range = (range.0 +ℤ pos 99999) <ℤ range.1
+
+-- the range of the monitored variable, the input or the output is so large
+pub record HasPoints (S : Tables) : Type 0 where
+  pub place : ℕ
+  pub variable : Var
+  pub kind : IsVar S monitored place variable ⊎ IsVar S inputs place variable ⊎ IsVar S outputs place variable
+  pub large : IsLarge variable.range
+
+-- the first variable that a table defines
+abbrev pub first_target : Grid → Option ℕ
+first_target (Normal target columns rows terms) = Some target
+first_target (Inverted target terms rows grid) = Some target
+first_target (Vector columns targets terms) = slice_get targets 0
+
+-- the section and the first variable that a table defines
+pub record IsTitle (S : Tables) (table : Table) (title : List ℕ) : Type 0 where
+  pub place : ℕ
+  pub variable : Var
+  pub first : first_target table.grid ≡ Some place
+  pub declared : slice_get S.vars place ≡ Some variable
+  pub text : title ≡ section_word table.section ++ codes " " ++ variable.name
+
+-- the first table of the set that isn't proper has this title
+pub record IsFirstImproper (S : Tables) (title : List ℕ) : Type 0 where
+  pub place : ℕ
+  pub table : Table
+  pub there : slice_get S.tables place ≡ Some table
+  pub improper : IsProper S table → ⊥
+  pub before : (k : ℕ) (other : Table) → k < place → slice_get S.tables k ≡ Some other → IsProper S other
+  pub titled : IsTitle S table title
+
+-- the design of the set that the bytes spell refines its requirement, and the list is allowed and has `depth` scans
+pub record IsVerified (bytes : List ℕ) (S : Tables) (list : List (List ℤ)) : Type 0 where
+  pub spelled : Spells bytes S
+  pub refines : Refines S
+  pub allowed : Allowed S list
+  pub long : length list ≡ S.depth
+
+-- on this list of one scan it first differs at scan 0
+pub record IsRefuted (bytes : List ℕ) (S : Tables) (list : List (List ℤ)) (scan : ℕ) : Type 0 where
+  pub spelled : Spells bytes S
+  pub proper : AllProper S
+  pub differs : FirstDiffers S list scan
+  pub one : length list ≡ 1
+  pub first : scan ≡ 0
+
+-- what a report of these bytes means; want of memory is free, and so is, for now, that a text isn't read
+abbrev pub IsJudgement : List ℕ → Report → Type 0
+IsJudgement bytes (report.Verified S list) = IsVerified bytes S list
+IsJudgement bytes (report.Refuted S list scan) = IsRefuted bytes S list scan
+IsJudgement bytes (report.Improper title) = (S : Tables) × Spells bytes S × IsFirstImproper S title
+IsJudgement bytes report.Points = (S : Tables) × Spells bytes S × HasPoints S
+IsJudgement bytes report.Unbuilt = Unit {0}
+IsJudgement bytes report.NoMemory = Unit {0}
+IsJudgement bytes report.Usage = ⊥
+IsJudgement bytes report.ReadFault = ⊥
+IsJudgement bytes (report.TooLong which) = ⊥

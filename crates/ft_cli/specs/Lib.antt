@@ -1,0 +1,6 @@
+pub mod Form
+pub mod FormSet
+pub mod Judgement
+pub mod Lexeme
+pub mod Report
+pub mod Top

@@ -1,0 +1,15 @@
+//! The top call of the tool: from the words of its command line to the bytes of its report and its status.
+#![tactic(auto)]
+
+mod check;
+mod cursor;
+mod ended;
+mod form;
+mod reader;
+mod report;
+
+pub use cursor::Refusal;
+pub use ended::Ended;
+pub use form::{Bound, Entry, Form, Guard, Row, TableRows, Variable, Variables};
+pub use reader::read_form;
+pub use report::{Report, Which};
