@@ -4,3 +4,5 @@ pub mod Judgement
 pub mod Lexeme
 pub mod Report
 pub mod Top
+pub mod Rows
+pub mod Verdict

@@ -5,11 +5,13 @@ mod check;
 mod cursor;
 mod ended;
 mod form;
+mod judging;
 mod reader;
 mod report;
+mod rows;
+mod set;
+mod verdict;
 
-pub use cursor::Refusal;
 pub use ended::Ended;
-pub use form::{Bound, Entry, Form, Guard, Row, TableRows, Variable, Variables};
-pub use reader::read_form;
+pub use judging::judge;
 pub use report::{Report, Which};

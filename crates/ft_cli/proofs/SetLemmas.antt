@@ -1,0 +1,221 @@
+-- The set of a form is sound: what its tables read, that each variable has its table, and an order.
+use Rattle.std.proofs.Common.{◌≡◌, ◌∙◌, sym, ap, subst, refl, ℕ, zero, suc, ◌+◌, ◌<◌, ◌≤◌, ℤ, pos, ◌<ℤ◌, ◌≤ℤ◌, Bool, true, false, ◌||◌, ◌&&◌, cond, List, [], ◌∷◌, ◌++◌, map, length, slice_get, Option, Some, None, arith, ⊎_elim, true≢false, inl, inr}
+use Rattle.std.specs.Prelude.{IsTrue, ◌==◌, if◌then◌else◌}
+use Rattle.std.specs.List.{Contains, flat_map, list_any}
+use Rattle.std.proofs.lemmas.Int.{ints}
+use Rattle.std.proofs.lemmas.Bool.{and_parts, or_cases, or_left, or_right}
+use Rattle.std.proofs.lemmas.List.Elements.{Contains-append_cases}
+use Rattle.std.proofs.lemmas.Option.{none-some, same_Some}
+use Rattle.ft_base.specs.Interval.{IsWithin}
+use Rattle.ft_core.specs.declared.tables.Table.{Table}
+use Rattle.ft_core.specs.declared.tables.Var.{Var}
+use Rattle.ft_core.specs.declared.tables.Memory.{Memory}
+use Rattle.ft_core.specs.declared.tables.VarKind.TheVariants.{Mon, Con, Input, Output}
+use Rattle.ft_core.specs.declared.tables.Section.{Section}
+use Rattle.ft_core.specs.declared.tables.Section.TheVariants as section
+use Rattle.ft_core.specs.declared.term.Term.{Term}
+use Rattle.ft_core.specs.declared.term.Term.TheOpen as tl
+use Rattle.ft_core.specs.declared.term.Term.TheVariants.{Num, Now, rolls-Num, rolls-Now}
+use Rattle.ft_core.specs.declared.term.Cond.{Cond}
+use Rattle.ft_core.specs.declared.term.Cond.TheOpen as cl
+use Rattle.ft_core.specs.declared.term.Cond.TheVariants as cond
+use Rattle.ft_core.specs.Kinds.{defined_kinds, is_of}
+use Rattle.ft_core.specs.Grids.{is_for, is_section, defines}
+use Rattle.ft_core.specs.Reads.{Read, at_now, at_before, of_memory, of_age, term_reads, cond_reads, grid_reads}
+use Rattle.ft_core.specs.Sound.{IsSound, IsRank, HasOrder, may_read, item_reads, is_current}
+use Rattle.ft_core.proofs.TermLemmas.{reads-rolled, cond_reads-rolled}
+use Rattle.ft_cli.specs.Form.{IsGoodForm, AreGoodVariables, bounds_of}
+use Rattle.ft_cli.specs.FormSet.{vars_of, tables_of, table_of, cond_of, term_of}
+use Rattle.ft_cli.specs.declared.form.Guard.{Guard}
+use Rattle.ft_cli.specs.declared.form.Guard.TheVariants.{Always, Compare}
+use Rattle.ft_cli.specs.declared.form.Entry.{Entry}
+use Rattle.ft_cli.specs.declared.form.Entry.TheVariants as entry
+use Rattle.ft_cli.specs.declared.form.Row.{Row}
+use Rattle.ft_cli.specs.declared.form.Variables.{Variables}
+use Rattle.ft_cli.specs.declared.form.TableRows.{TableRows}
+use Rattle.ft_cli.specs.declared.form.Form.{Form}
+
+-- the variable read is all that is read
+abbrev pub ReadsOnly : ℕ → List Read → Type 0
+ReadsOnly read reads = (r : Read) → Contains reads r → r ≡ at_now read
+
+none-read : (read : ℕ) → ReadsOnly read []
+none-read read r c = absurd (omega (arith, c.1))
+
+one-read : (read : ℕ) → ReadsOnly read (at_now read ∷ [])
+one-read read r (zero, below, is) = sym is
+one-read read r (suc k, below, is) = absurd (omega (arith, below))
+
+both-read : (read : ℕ) (xs ys : List Read) → ReadsOnly read xs → ReadsOnly read ys → ReadsOnly read (xs ++ ys)
+both-read read xs ys p q r c = ⊎_elim (λ left. p r left) (λ right. q r right) (Contains-append_cases xs ys r c)
+
+mapped-read : {A B : Type 0} (read : ℕ) (f : B → List Read) (g : A → B) (xs : List A) → ((a : A) → ReadsOnly read (f (g a))) → ReadsOnly read (flat_map f (map g xs))
+mapped-read read f g [] h = none-read read
+mapped-read read f g (x ∷ xs) h = both-read read (f (g x)) (flat_map f (map g xs)) (h x) (mapped-read read f g xs h)
+
+term-read : (read : ℕ) (e : Entry) → ReadsOnly read (term_reads (term_of read e))
+term-read read (entry.Number b) = subst (ReadsOnly read) (sym (reads-rolled _ (tl.Num _) (rolls-Num _))) (none-read read)
+term-read read entry.Read = subst (ReadsOnly read) (sym (reads-rolled _ (tl.Now read) (rolls-Now read))) (one-read read)
+
+cond-read : (read : ℕ) (g : Guard) → ReadsOnly read (cond_reads (cond_of read g))
+cond-read read Always = subst (ReadsOnly read) (sym (cond_reads-rolled _ cl.Yes cond.rolls-Yes)) (none-read read)
+cond-read read (Compare rel b) = subst (ReadsOnly read) (sym (cond_reads-rolled _ (cl.Compare rel (Now read) (Num _)) (cond.rolls-Compare rel (Now read) (Num _))))
+    (both-read read (term_reads (Now read)) (term_reads (Num _)) (term-read read entry.Read) (term-read read (entry.Number b)))
+
+-- a table reads its variable alone
+pub table-reads : (s : Section) (target read : ℕ) (rows : List Row) → ReadsOnly read (grid_reads (table_of s target read rows).grid)
+table-reads s target read rows = both-read read
+    (flat_map cond_reads (cond.Yes ∷ []) ++ flat_map cond_reads (map (λ row. cond_of read row.guard) rows))
+    (flat_map (flat_map term_reads) (map (λ row. term_of read row.entry ∷ []) rows))
+    (both-read read (flat_map cond_reads (cond.Yes ∷ [])) (flat_map cond_reads (map (λ row. cond_of read row.guard) rows))
+    (both-read read (cond_reads cond.Yes) [] (cond-read read Always) (none-read read))
+    (mapped-read read cond_reads (λ row. cond_of read row.guard) rows (λ row. cond-read read row.guard)))
+    (mapped-read read (flat_map term_reads) (λ row. term_of read row.entry ∷ []) rows
+    (λ row. both-read read (term_reads (term_of read row.entry)) [] (term-read read row.entry) (none-read read)))
+
+inits-good : (v : Variables) → AreGoodVariables v → (x : ℕ) (u : Var) → slice_get (vars_of v) x ≡ Some u → IsWithin u.range u.init
+inits-good v good zero u e = subst (λ (w : Var). IsWithin w.range w.init) (same_Some _ u e) good.monitored.init
+inits-good v good (suc zero) u e = subst (λ (w : Var). IsWithin w.range w.init) (same_Some _ u e) good.controlled.init
+inits-good v good (suc (suc zero)) u e = subst (λ (w : Var). IsWithin w.range w.init) (same_Some _ u e) good.input.init
+inits-good v good (suc (suc (suc zero))) u e = subst (λ (w : Var). IsWithin w.range w.init) (same_Some _ u e) good.output.init
+inits-good v good (suc (suc (suc (suc x)))) u e = absurd (none-some u e)
+
+module _ (v : Variables) (t : TableRows) where
+  allowed : (s : Section) (target read : ℕ) (rows : List Row) (u : Table) (q : Read) → table_of s target read rows ≡ u → Contains (grid_reads u.grid) q
+      → IsTrue (may_read (vars_of v) [] s (at_now read)) → IsTrue (may_read (vars_of v) [] u.section q)
+  allowed s target read rows u q is c may = subst (λ (w : Table). IsTrue (may_read (vars_of v) [] w.section q)) is
+      (subst (λ z. IsTrue (may_read (vars_of v) [] s z)) (sym (table-reads s target read rows q (subst (λ (w : Table). Contains (grid_reads w.grid) q) (sym is) c))) may)
+
+  reads-allowed : (k : ℕ) (table : Table) (r : Read) → slice_get (tables_of t) k ≡ Some table → Contains (grid_reads table.grid) r
+      → IsTrue (may_read (vars_of v) [] table.section r)
+  reads-allowed zero table r e c = allowed section.In 2 0 t.input table r (same_Some _ table e) c refl
+  reads-allowed (suc zero) table r e c = allowed section.Req 1 0 t.required table r (same_Some _ table e) c refl
+  reads-allowed (suc (suc zero)) table r e c = allowed section.Sof 3 2 t.design table r (same_Some _ table e) c refl
+  reads-allowed (suc (suc (suc zero))) table r e c = allowed section.Out 1 3 t.output table r (same_Some _ table e) c refl
+  reads-allowed (suc (suc (suc (suc k)))) table r e c = absurd (none-some table e)
+
+  tables-there : (s : Section) (x : ℕ) → IsTrue (is_of (vars_of v) (defined_kinds s) x) → IsTrue (list_any (is_for s x) (tables_of t))
+  tables-there section.In zero e = absurd (true≢false (sym e))
+  tables-there section.In (suc zero) e = absurd (true≢false (sym e))
+  tables-there section.In (suc (suc zero)) e = refl
+  tables-there section.In (suc (suc (suc zero))) e = absurd (true≢false (sym e))
+  tables-there section.In (suc (suc (suc (suc x)))) e = absurd (true≢false (sym e))
+  tables-there section.Req zero e = absurd (true≢false (sym e))
+  tables-there section.Req (suc zero) e = refl
+  tables-there section.Req (suc (suc zero)) e = absurd (true≢false (sym e))
+  tables-there section.Req (suc (suc (suc zero))) e = absurd (true≢false (sym e))
+  tables-there section.Req (suc (suc (suc (suc x)))) e = absurd (true≢false (sym e))
+  tables-there section.Sof zero e = absurd (true≢false (sym e))
+  tables-there section.Sof (suc zero) e = absurd (true≢false (sym e))
+  tables-there section.Sof (suc (suc zero)) e = absurd (true≢false (sym e))
+  tables-there section.Sof (suc (suc (suc zero))) e = refl
+  tables-there section.Sof (suc (suc (suc (suc x)))) e = absurd (true≢false (sym e))
+  tables-there section.Out zero e = absurd (true≢false (sym e))
+  tables-there section.Out (suc zero) e = refl
+  tables-there section.Out (suc (suc zero)) e = absurd (true≢false (sym e))
+  tables-there section.Out (suc (suc (suc zero))) e = absurd (true≢false (sym e))
+  tables-there section.Out (suc (suc (suc (suc x)))) e = absurd (true≢false (sym e))
+
+  abbrev place_in : Section → ℕ
+  place_in section.In = 0
+  place_in section.Req = 1
+  place_in section.Sof = 2
+  place_in section.Out = 3
+
+  at-place : (s z : Section) → is_section s z ≡ true → place_in s ≡ place_in z
+  at-place section.In section.In e = refl
+  at-place section.Req section.Req e = refl
+  at-place section.Sof section.Sof e = refl
+  at-place section.Out section.Out e = refl
+  at-place section.In section.Req e = absurd (true≢false (sym e))
+  at-place section.In section.Sof e = absurd (true≢false (sym e))
+  at-place section.In section.Out e = absurd (true≢false (sym e))
+  at-place section.Req section.In e = absurd (true≢false (sym e))
+  at-place section.Req section.Sof e = absurd (true≢false (sym e))
+  at-place section.Req section.Out e = absurd (true≢false (sym e))
+  at-place section.Sof section.In e = absurd (true≢false (sym e))
+  at-place section.Sof section.Req e = absurd (true≢false (sym e))
+  at-place section.Sof section.Out e = absurd (true≢false (sym e))
+  at-place section.Out section.In e = absurd (true≢false (sym e))
+  at-place section.Out section.Req e = absurd (true≢false (sym e))
+  at-place section.Out section.Sof e = absurd (true≢false (sym e))
+
+  stands-at : (k : ℕ) (a : Table) → slice_get (tables_of t) k ≡ Some a → k ≡ place_in a.section
+  stands-at zero a e = ap (λ (w : Table). place_in w.section) (same_Some (table_of section.In 2 0 t.input) a e)
+  stands-at (suc zero) a e = ap (λ (w : Table). place_in w.section) (same_Some (table_of section.Req 1 0 t.required) a e)
+  stands-at (suc (suc zero)) a e = ap (λ (w : Table). place_in w.section) (same_Some (table_of section.Sof 3 2 t.design) a e)
+  stands-at (suc (suc (suc zero))) a e = ap (λ (w : Table). place_in w.section) (same_Some (table_of section.Out 1 3 t.output) a e)
+  stands-at (suc (suc (suc (suc k)))) a e = absurd (none-some a e)
+
+  tables-once : (s : Section) (x k l : ℕ) (a b : Table) → slice_get (tables_of t) k ≡ Some a → slice_get (tables_of t) l ≡ Some b
+      → IsTrue (is_for s x a) → IsTrue (is_for s x b) → k ≡ l
+  tables-once s x k l a b ea eb fa fb =
+      stands-at k a ea ∙ at-place a.section s (and_parts (is_section a.section s) (defines a.grid x) fa).0
+      ∙ sym (stands-at l b eb ∙ at-place b.section s (and_parts (is_section b.section s) (defines b.grid x) fb).0)
+
+  -- the controlled variable and the output come after what their tables read
+  abbrev rank : Read → ℕ
+  rank (at_now x) = if (1 == x) || (3 == x) then 1 else 0
+  rank (at_before x) = 0
+  rank (of_memory m) = 0
+  rank (of_age m) = 0
+
+  rank-low : (r : Read) → rank r < 4
+  rank-low (at_now x) = elim ((1 == x) || (3 == x)) as (λ b. (if b then 1 else 0) < 4) [ true ↦ omega arith | false ↦ omega arith ]
+  rank-low (at_before x) = omega arith
+  rank-low (of_memory m) = omega arith
+  rank-low (of_age m) = omega arith
+
+  -- what is read by one of these, where it stands for x
+  read-where : (b : Bool) (reads : List Read) (q : Read) → Contains (if b then reads else []) q → (b ≡ true) × Contains reads q
+  read-where true reads q c = (refl, c)
+  read-where false reads q c = absurd (omega (arith, c.1))
+
+  rank-falls : (r q : Read) → Contains (item_reads [] (tables_of t) r) q → IsTrue (is_current q) → rank q < rank r
+  rank-falls (at_before x) q c now = absurd (omega (arith, c.1))
+  rank-falls (of_memory m) q c now = absurd (omega (arith, c.1))
+  rank-falls (of_age m) q c now = absurd (omega (arith, c.1))
+  rank-falls (at_now x) q c now = ⊎_elim
+      (λ by_req. let at = read-where ((1 == x) || false) (grid_reads (table_of section.Req 1 0 t.required).grid) q by_req in
+      falls x q 0 (table-reads section.Req 1 0 t.required q at.1) (or_left (1 == x) (3 == x) (⊎_elim (λ is. is) (λ never. absurd (true≢false (sym never))) (or_cases (1 == x) false at.0))) refl)
+      (λ rest. ⊎_elim
+      (λ by_sof. let at = read-where (false || (3 == x)) (grid_reads (table_of section.Sof 3 2 t.design).grid) q by_sof in
+      falls x q 2 (table-reads section.Sof 3 2 t.design q at.1) (or_right (1 == x) (3 == x) at.0) refl)
+      (λ none. absurd (omega (arith, none.1)))
+      (Contains-append_cases (if (false || (3 == x)) then grid_reads (table_of section.Sof 3 2 t.design).grid else []) [] q rest))
+      (Contains-append_cases (if ((1 == x) || false) then grid_reads (table_of section.Req 1 0 t.required).grid else [])
+      ((if (false || (3 == x)) then grid_reads (table_of section.Sof 3 2 t.design).grid else []) ++ []) q c)
+    where
+      falls : (x : ℕ) (q : Read) (read : ℕ) → q ≡ at_now read → ((1 == x) || (3 == x)) ≡ true → rank (at_now read) ≡ 0 → rank q < rank (at_now x)
+      falls x q read is one low = subst (λ z. rank z < rank (at_now x)) (sym is)
+          (subst (λ n. n < rank (at_now x)) (sym low) (subst (λ b. 0 < (if b then 1 else 0)) (sym one) (omega arith)))
+
+-- the set of a good form is sound
+pub sound-of : (f : Form) → IsGoodForm f → IsSound (pos f.period) (vars_of f.variables) [] (tables_of f.rows) [] [] []
+sound-of f good = record {
+  positive = omega (arith, ints, good.period.0);
+  limited = omega (arith, ints, good.period.1);
+  inits = inits-good f.variables good.variables;
+  memories_sound = λ m memory e. absurd (none-some memory e);
+  tables_read = reads-allowed f.variables f.rows;
+  memories_read = λ m memory r e c. absurd (none-some memory e);
+  first_reads = λ k c r e n. absurd (none-some c e);
+  always_reads = λ k c r e n. absurd (none-some c e);
+  step_reads = λ k c r e n. absurd (none-some c e);
+  has_table = tables-there f.variables f.rows;
+  one_table = tables-once f.variables f.rows;
+  order = ∣ (rank f.variables f.rows, record { bounded = rank-low f.variables f.rows; falls = rank-falls f.variables f.rows }) ∣₁;
+}
+
+-- the same of its parts as they were made
+pub sound-at : (f : Form) → IsGoodForm f → (period : ℤ) (vars : List Var) (memories : List Memory) (tables : List Table) (first always step : List Cond)
+    → period ≡ pos f.period → vars ≡ vars_of f.variables → memories ≡ [] → tables ≡ tables_of f.rows → first ≡ [] → always ≡ [] → step ≡ []
+    → IsSound period vars memories tables first always step
+sound-at f good period vars memories tables first always step p v m t a b c =
+    subst (λ x. IsSound x vars memories tables first always step) (sym p)
+    (subst (λ x. IsSound (pos f.period) x memories tables first always step) (sym v)
+    (subst (λ x. IsSound (pos f.period) (vars_of f.variables) x tables first always step) (sym m)
+    (subst (λ x. IsSound (pos f.period) (vars_of f.variables) [] x first always step) (sym t)
+    (subst (λ x. IsSound (pos f.period) (vars_of f.variables) [] (tables_of f.rows) x always step) (sym a)
+    (subst (λ x. IsSound (pos f.period) (vars_of f.variables) [] (tables_of f.rows) [] x step) (sym b)
+    (subst (λ x. IsSound (pos f.period) (vars_of f.variables) [] (tables_of f.rows) [] [] x) (sym c) (sound-of f good)))))))

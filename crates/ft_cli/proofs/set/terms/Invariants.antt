@@ -1,0 +1,6 @@
+use Rattle.std.proofs.Common.{◌≡◌, ◌∷◌, [], map, take}
+use Rattle.ft_cli.specs.FormSet.{term_of}
+use Rattle.ft_cli.proofs.set.terms.Given as goal
+
+abbrev pub invariant-loop-row : goal.invariant-loop-row
+invariant-loop-row l = l.terms ≡ map (λ row. term_of l.read row.entry ∷ []) (take l.row-index l.rows)

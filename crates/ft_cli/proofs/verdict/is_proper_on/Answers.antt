@@ -1,0 +1,18 @@
+use Rattle.std.proofs.Common.{◌≡◌, ◌∙◌, sym, ap, rules, ◌+ℤ◌, pos, true, w64, FitsSigned, arith}
+use Rattle.std.proofs.lemmas.Int.{to_z-of_z}
+use borrow.Author.Count.{below_more}
+use Rattle.ft_cli.specs.Rows.{is_proper_at}
+use Rattle.ft_cli.proofs.RangeLemmas.{all-within}
+use Rattle.ft_cli.proofs.verdict.is_proper_on.Goals as goal
+
+pub loop-step-preserved : goal.loop-step-preserved
+loop-step-preserved c =
+    let fits : FitsSigned w64 c.number_in.result = search rules in
+    let is = simp to_z-of_z at c.is_proper_at.ensures in
+    below_more (λ k. is_proper_at c.args.rows.now c.args.given (c.args.read.0 +ℤ pos k) ≡ true) c.loop-step.step c.loop-step.invariant
+    (ap (is_proper_at c.args.rows.now c.args.given) (sym c.number_in.ensures) ∙ sym is ∙ c.if-not-is_proper_at.false)
+
+pub returns : goal.returns
+returns c = λ yes_it_is.
+    all-within (λ z. is_proper_at c.args.rows.now c.args.given z ≡ true) c.args.read c.numbers_in-step-end.result c.loop-step.step
+    c.numbers_in-step-end.ensures (omega arith) c.loop-step.invariant

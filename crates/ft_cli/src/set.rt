@@ -1,0 +1,178 @@
+ghost use Rattle.std.specs.Prelude.{◌≡◌, [], ◌∷◌, map, IfOk, pos};
+ghost use Rattle.ft_cli.specs.Form.{IsGoodForm, IsGoodVariable};
+ghost use Rattle.ft_cli.specs.FormSet.{IsSetOf, block_of, cond_of, table_of, tables_of, term_of, var_of, vars_of};
+
+use crate::form::{Entry, Form, Guard, Row, TableRows, Variable, Variables};
+use ft_base::{Duplicate, List, NoMemory, Range, Text};
+use ft_core::{Block, Cond, Fact, Grid, Section, Table, Tables, Take, Term, Var, VarKind};
+use std::alloc::Global;
+
+/// The variable as a checked set has it.
+fn checked_variable(alloc: Global, kind: VarKind, variable: Variable) -> Result<Var, NoMemory>
+    requires { IsGoodVariable variable }
+    ensures { IfOk result (λ v. v ≡ var_of kind variable) }
+{
+    let init = variable.init.value();
+    match Range::new(variable.lo.value(), variable.hi.value()) {
+        Some(range) => Ok(Var {
+            name: variable.name,
+            kind,
+            range,
+            members: List::new(alloc),
+            init,
+        }),
+        None => unreachable!(),
+    }
+}
+
+/// The condition of a row of a table that reads this variable.
+fn condition(read: u32, guard: Guard) -> Cond
+    ensures { result ≡ cond_of read guard }
+{
+    match guard {
+        Guard::Always => Cond::Yes,
+        Guard::Compare(relation, bound) => {
+            Cond::Compare(relation, Term::Now(read), Term::Num(bound.value()))
+        }
+    }
+}
+
+/// The term of a row of a table that reads this variable.
+fn term(read: u32, entry: Entry) -> Term
+    ensures { result ≡ term_of read entry }
+{
+    match entry {
+        Entry::Number(bound) => Term::Num(bound.value()),
+        Entry::Read => Term::Now(read),
+    }
+}
+
+/// The conditions of all rows.
+fn conditions(alloc: Global, read: u32, rows: &[Row]) -> Result<List<Cond>, NoMemory>
+    ensures { IfOk result (λ conds. conds ≡ map (λ row. cond_of read row.guard) rows.now) }
+{
+    let mut conds = List::new(alloc);
+    for row in rows {
+        conds.push(condition(read, row.guard))?;
+    }
+    Ok(conds)
+}
+
+/// The one entry of a row.
+fn entries(alloc: Global, read: u32, row: &Row) -> Result<List<Term>, NoMemory>
+    ensures { IfOk result (λ terms. terms ≡ term_of read row.now.entry ∷ []) }
+{
+    let mut terms = List::new(alloc);
+    terms.push(term(read, row.entry))?;
+    Ok(terms)
+}
+
+/// The entries of all rows.
+fn terms(alloc: Global, read: u32, rows: &[Row]) -> Result<List<List<Term>>, NoMemory>
+    ensures { IfOk result (λ terms. terms ≡ map (λ row. term_of read row.entry ∷ []) rows.now) }
+{
+    let mut terms = List::new(alloc);
+    for row in rows {
+        terms.push(entries(alloc, read, row)?)?;
+    }
+    Ok(terms)
+}
+
+/// A normal table with one column that is always taken.
+fn table(
+    alloc: Global,
+    section: Section,
+    target: u32,
+    read: u32,
+    rows: &[Row],
+) -> Result<Table, NoMemory>
+    ensures { IfOk result (λ t. t ≡ table_of section target read rows.now) }
+{
+    let mut columns = List::new(alloc);
+    columns.push(Cond::Yes)?;
+    let rows_conds = conditions(alloc, read, rows)?;
+    let terms = terms(alloc, read, rows)?;
+    Ok(Table {
+        section,
+        grid: Grid::Normal {
+            target,
+            columns,
+            rows: rows_conds,
+            terms,
+        },
+    })
+}
+
+fn tables(alloc: Global, rows: &TableRows) -> Result<List<Table>, NoMemory>
+    ensures { IfOk result (λ ts. ts ≡ tables_of rows.now) }
+{
+    let mut tables = List::new(alloc);
+    tables.push(table(alloc, Section::In, 2, 0, rows.input.as_slice())?)?;
+    tables.push(table(alloc, Section::Req, 1, 0, rows.required.as_slice())?)?;
+    tables.push(table(alloc, Section::Sof, 3, 2, rows.design.as_slice())?)?;
+    tables.push(table(alloc, Section::Out, 1, 3, rows.output.as_slice())?)?;
+    Ok(tables)
+}
+
+fn variables(alloc: Global, given: Variables) -> Result<List<Var>, NoMemory>
+    requires monitored { IsGoodVariable given.monitored }
+    requires controlled { IsGoodVariable given.controlled }
+    requires input { IsGoodVariable given.input }
+    requires output { IsGoodVariable given.output }
+    ensures { IfOk result (λ vs. vs ≡ vars_of given) }
+{
+    let mut vars = List::new(alloc);
+    vars.push(checked_variable(alloc, VarKind::Mon, given.monitored)?)?;
+    vars.push(checked_variable(alloc, VarKind::Con, given.controlled)?)?;
+    vars.push(checked_variable(alloc, VarKind::Input, given.input)?)?;
+    vars.push(checked_variable(alloc, VarKind::Output, given.output)?)?;
+    Ok(vars)
+}
+
+/// The block that takes the controlled variable and the output, with the controlled variable as its goal.
+fn block(alloc: Global, name: Text) -> Result<Block, NoMemory>
+    ensures { IfOk result (λ b. b ≡ block_of name) }
+{
+    let mut takes = List::new(alloc);
+    takes.push(Take::Variable(1))?;
+    takes.push(Take::Variable(3))?;
+    let mut facts = List::new(alloc);
+    facts.push(Fact::Goal { con: 1 })?;
+    Ok(Block {
+        name,
+        takes,
+        uses: List::new(alloc),
+        facts,
+    })
+}
+
+fn blocks(alloc: Global, name: Text) -> Result<List<Block>, NoMemory>
+    ensures { IfOk result (λ bs. bs ≡ block_of name ∷ []) }
+{
+    let mut blocks = List::new(alloc);
+    blocks.push(block(alloc, name)?)?;
+    Ok(blocks)
+}
+
+/// The checked set of a form.
+pub fn checked_set(alloc: Global, form: Form) -> Result<Tables, NoMemory>
+    requires { IsGoodForm form }
+    ensures { IfOk result (IsSetOf form) }
+{
+    let tables = tables(alloc, &form.rows)?;
+    let vars = variables(alloc, form.variables)?;
+    let blocks = blocks(alloc, form.block)?;
+    Ok(Tables {
+        name: form.name,
+        period: i64::from(form.period),
+        splits: 1000,
+        depth: 4,
+        vars,
+        memories: List::new(alloc),
+        tables,
+        first: List::new(alloc),
+        always: List::new(alloc),
+        step: List::new(alloc),
+        blocks,
+    })
+}
