@@ -1,13 +1,31 @@
 //! The block: places side by side for values of one type, of which the first hold a value.
-ghost use Rattle.std.specs.Prelude.{◌≡◌, ℕ, ◌<◌, ◌≤◌, [], List, length, slice_get, Some, IfOk, ⊤};
+ghost use Rattle.std.specs.Prelude.{◌≡◌, ℕ, ◌<◌, ◌≤◌, [], List, length, slice_get, Some, IfOk, IsTrue, ⊤};
+ghost use Rattle.std.specs.Mem.{type_size};
 ghost use Rattle.std.specs.Vec.Ownership.{FitsInBlock};
 ghost use denote.RawPtr.{Ptr};
+ghost use prog.Memory.{capped};
 ghost use Rattle.ft_pool.specs.Places.{put_at};
 ghost use Rattle.ft_pool.specs.Ownership.{cells_own, cells_lent};
 
 use std::alloc::{AllocError, Allocator};
 use std::marker::{Model, PhantomData};
 use std::mem::{align_of, size_of};
+
+/// How many bytes a value takes.
+fn item_bytes<T>() -> usize
+    ensures { result ≡ capped (type_size T.row) }
+{
+    size_of::<T>()
+}
+
+/// Whether a block for so many values is small enough to ask for.
+pub(crate) fn fits_block<T>(room: usize) -> bool
+    ensures { IsTrue result → FitsInBlock T.row room }
+{
+    let most = isize::MAX as usize;
+    let bytes = item_bytes::<T>();
+    room <= most && bytes <= most && (bytes == 0 || room <= most / bytes)
+}
 
 /// Where a block begins. It owns nothing.
 pub(crate) struct Start<T> {

@@ -2,3 +2,8 @@
 #![tactic(auto)]
 
 mod block;
+mod id;
+mod pool;
+
+pub use id::{Id, Mark};
+pub use pool::Pool;
