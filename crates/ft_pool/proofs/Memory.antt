@@ -1,4 +1,4 @@
--- One place comes out of a block and goes back, and a whole block is room. Assumes `Logic`.
+-- One place comes out of a block and goes back, and a whole block is room.
 use mathlib.Core.Path.{◌≡◌, refl, sym}
 use Prim.Native.Nat.{ℕ, zero, suc, ◌+◌, ◌*◌, ◌<◌, ◌≤◌}
 use native.Mathlib.Omega.{arith}
@@ -9,7 +9,7 @@ use seplogic.Ra.Ura.{Ura}
 use base.Fraction.{full_share}
 use mir.Syntax.{ty_array}
 use mir.Val.{Val}
-use base.Logic.{SProp, ent, sep}
+use base.Logic.{ent, sep}
 use base.Fml.{Fml, Lft, ftrue, ffalse, fsep, fat, froom}
 use types.Logic.{Logic, sem}
 use types.Kit.{‵, ◌⊛◌, some, given, ◌$◌, ◌∵◌, !, qed, by, move, keep, use1, use2, split, pick, learn, rewrite, fsplit, fjoin, frame, done}

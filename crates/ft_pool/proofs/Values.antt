@@ -1,4 +1,4 @@
--- The rows of the two structs, and the machine values that they have. Assumes `Logic`.
+-- The rows of the two structs, and the machine values that they have.
 use mathlib.Core.Path.{◌≡◌, refl, ◌∙◌}
 use mathlib.Core.List.{List, [], ◌∷◌, ◌++◌}
 use lib.Dec.{lit<}

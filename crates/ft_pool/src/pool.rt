@@ -160,8 +160,13 @@ mod tests {
         for (room, sum) in [(0, 0), (1, 1), (2, 3), (1_000_000, 500_000_500_000)] {
             assert_eq!(rt; filled(rt.alloc(), room)?, (sum, room, room));
         }
-        for room in [1 << 60, 1 << 61, usize::MAX] {
-            assert!(rt; Pool::<u64>::open(rt.alloc(), room).is_err());
+        for (room, opens) in [
+            (40_000_000, true),
+            (1 << 60, false),
+            (1 << 61, false),
+            (usize::MAX, false),
+        ] {
+            assert_eq!(rt; Pool::<u64>::open(rt.alloc(), room).is_ok(), opens);
         }
         Ok(())
     }
@@ -182,7 +187,15 @@ mod tests {
         assert_eq!(rt; (pool.get(seven).value, pool.get(eight).value), (7, 8));
         assert!(rt; pool.get(eight).next.is_some());
         pool.release(mark);
-        assert_eq!(rt; (pool.len(), pool.spare(), pool.get(seven).value), (1, 1, 7));
+        assert_eq!(rt;
+            (pool.len(), pool.spare(), pool.get(seven).value),
+            (1, 1, 7)
+        );
+        let nine = pool.push(Node {
+            value: 9,
+            next: None,
+        });
+        assert_eq!(rt; (pool.get(seven).value, pool.get(nine).value), (7, 9));
         Ok(())
     }
 }

@@ -1,9 +1,9 @@
--- The size of a type parameter is a word of the machine. Assumes `Logic`.
+-- The size of a type parameter is a word of the machine.
 use Rattle.std.proofs.Common.{◌≡◌, ℕ, ◌^◌, List, [], ◌∷◌, refl, w64}
 use mir.Syntax.{Args, a_type}
 use mir.Val.{Val, vint}
 use mir.MapTy.{inst_fn}
-use base.Logic.{SProp, emp}
+use base.Logic.{emp}
 use base.Fml.{ftrue, flft}
 use prog.Memory.{size, capped}
 use prog.Capped.{capped_fits}

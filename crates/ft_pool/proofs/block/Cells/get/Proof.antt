@@ -1,4 +1,4 @@
--- `get` lends one of the values that a `&` to the cells shows. Assumes `Logic`.
+-- `get` lends one of the values that a `&` to the cells shows.
 use Rattle.std.proofs.Common.{◌≡◌, ℕ, ◌+◌, ◌*◌, ◌^◌, ◌<◌, List, [], ◌∷◌, ◌++◌, length, refl, ◌∙◌, arith, w64}
 use base.Fraction.{full_share}
 use mir.Val.{Val, vint, vptr}

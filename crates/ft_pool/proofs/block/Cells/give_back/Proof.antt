@@ -1,18 +1,18 @@
--- `give_back` forgets the values, and hands the block back with the right to do so. Assumes `Logic`.
+-- `give_back` forgets the values, and hands the block back with the right to do so.
 use Rattle.std.proofs.Common.{◌≡◌, ℕ, ◌*◌, ◌^◌, ◌<◌, List, [], ◌∷◌, ◌++◌, refl, sym, ap, subst, ◌∙◌, arith, w64}
 use lib.Dec.{T}
 use mir.Syntax.{Ty, ty_array, ty_unit}
 use mir.Val.{Val, vint, vptr, vunit, has_ty, WT}
 use mir.MapTy.{inst_fn}
-use base.Logic.{SProp, emp, never, id⊢}
+use base.Logic.{SProp, never, id⊢}
 use base.Fml.{Lft, Share, Fml, Incl-trans, ftrue, fsep, froom, flft}
 use prog.Memory.{align, capped}
 use prog.Capped.{capped_fits}
-use prog.Wp.{Env, Wp, WpFn, after_seq, after_block, at_return}
+use prog.Wp.{Env, WpFn}
 use contract.BorrowLft.{◌⊑◌}
-use contract.Monad.{fact, fact_i}
+use contract.Monad.{fact}
 use contract.Running.{tables}
-use types.Kit.{any_q, ‵, raw, ◌⊛◌, given, later, await, learn, prop, settles, at_ret, ◌$◌, ◌∵◌, !, qed, by, move, keep, drop, use0, use1, split, join, group, regoal, rewrite, fsplit, fjoin, feq_i, flt_l}
+use types.Kit.{‵, raw, ◌⊛◌, given, later, await, learn, prop, at_ret, ◌$◌, ◌∵◌, !, qed, by, move, keep, drop, use1, split, join, group, regoal, rewrite, fsplit, fjoin, feq_i, flt_l}
 use types.Part.{whole, sub}
 use types.Run.{stop, fld, bin, size_word, align_word, unit_lit, of_opd, and_then, no_more, first, blocks, exec, returns, enter}
 use types.ByLocal.{alloc_all, pass_all, free_all, look_at, get, get_in, sets, is, lands_last, env}

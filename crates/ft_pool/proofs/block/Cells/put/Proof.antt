@@ -1,4 +1,4 @@
--- `put` writes the bytes of a value where its place begins. Assumes `Logic`.
+-- `put` writes the bytes of a value where its place begins.
 use Rattle.std.proofs.Common.{◌≡◌, ℕ, ◌+◌, ◌*◌, ◌^◌, ◌<◌, ◌≤◌, List, [], ◌∷◌, ◌++◌, length, refl, sym, ◌∙◌, arith, w64}
 use base.Fraction.{full_share}
 use mir.Val.{Val, vint, vptr, vunit}
@@ -26,7 +26,7 @@ use Rattle.std.proofs.ptr.Rows.{times_below, one_below}
 use Rattle.std.proofs.raw_atomic.Walks.{proved_at, leaves}
 use Rattle.std.proofs.VecSteps.Shapes.{after}
 use Rattle.ft_pool.specs.Places.{put_at}
-use Rattle.ft_pool.specs.Ownership.{places, short, cells_own}
+use Rattle.ft_pool.specs.Ownership.{places, cells_own}
 use Rattle.ft_pool.proofs.Memory.{bytes, besides, place_out, place_in}
 use Rattle.ft_pool.proofs.PlacesLemmas.{put_at-fits}
 use Rattle.ft_pool.proofs.Values.{args, Cells, Start, start_val, start_good, start_told}

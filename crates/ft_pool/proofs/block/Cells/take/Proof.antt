@@ -1,10 +1,10 @@
--- `take` makes the cells of the block that the allocator hands over. Assumes `Logic`.
-use Rattle.std.proofs.Common.{◌≡◌, ℕ, ◌*◌, ◌^◌, ◌<◌, List, [], ◌∷◌, ◌++◌, true, false, length, refl, sym, ap, subst, arith, lit<, w64}
-use mir.Syntax.{Body, Ty, ty_array}
+-- `take` makes the cells of the block that the allocator hands over.
+use Rattle.std.proofs.Common.{◌≡◌, ℕ, ◌*◌, ◌^◌, ◌<◌, List, [], ◌∷◌, ◌++◌, true, false, refl, sym, ap, subst, arith, lit<, w64}
+use mir.Syntax.{Body, Ty}
 use mir.Val.{Val, vint, vptr, vstruct, vcons, vnil}
 use mir.MapTy.{inst_fn}
-use base.Logic.{SProp, emp, id⊢}
-use base.Fml.{Lft, Share, Fml, Incl-trans, ftrue, fsep, froom, flft}
+use base.Logic.{SProp, emp}
+use base.Fml.{Lft, Share, Fml, Incl-trans, ftrue, fsep, flft}
 use prog.Memory.{align, capped}
 use prog.Capped.{capped_fits}
 use prog.Wp.{Env, Wp, WpFn, after_seq, at_return}
@@ -29,11 +29,11 @@ use denote.Struct.Declared as Declared
 use denote.Triple.Call.{calls_at}
 use denote.Triple.Table.{framed}
 use denote.Triple.Walked.{Stays, stay_dropped, walk_of, Goes-dropped}
-use Rattle.std.specs.Prelude.{Ok, Err, IfOk}
+use Rattle.std.specs.Prelude.{Ok, Err}
 use Rattle.std.specs.Vec.Ownership.{FitsInBlock}
 use Rattle.std.specs.contracts.alloc.AllocError as AE
 use Rattle.std.specs.contracts.result.Result as RS
-use Rattle.std.proofs.alloc.Calls.{Al, token, Answer-typed, Takes, at_takes, Answered, Takes-goes, Takes-gives, answers}
+use Rattle.std.proofs.alloc.Calls.{Al, Answer-typed, Takes, at_takes, Answered, Takes-goes, Takes-gives, answers}
 use Rattle.std.proofs.mem.Param.{El, R, elτ}
 use Rattle.std.proofs.raw_atomic.Walks.{proved_at, leaves}
 use Rattle.std.proofs.RcSteps.{first_Good}

@@ -1,4 +1,4 @@
-use Rattle.std.proofs.Common.{◌≡◌, ◌+◌, length}
+use Rattle.std.proofs.Common.{◌≡◌}
 use Rattle.ft_pool.proofs.pool.tests.filled.Given as goal
 
 abbrev pub invariant-loop-pool : goal.invariant-loop-pool
