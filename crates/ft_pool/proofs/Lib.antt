@@ -1,0 +1,5 @@
+pub mod Layouts
+pub mod Memory
+pub mod PlacesLemmas
+pub mod Sharing
+pub mod Values

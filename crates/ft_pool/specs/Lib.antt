@@ -1,0 +1,4 @@
+pub mod formers
+pub mod Ownership
+pub mod Places
+pub mod Region

@@ -1,0 +1,201 @@
+//! The region. The functions of `block` alone touch its memory.
+ghost use Rattle.std.specs.Prelude.{◌≡◌, ◌+◌, ◌-◌, ◌<◌, ◌≤◌, [], ◌∷◌, ◌++◌, length, slice_get, slice_set, take, Some, IfOk};
+ghost use Rattle.ft_pool.specs.Region.{region};
+
+use crate::block::{Cells, Start, fits_block};
+use crate::id::{Id, Mark};
+use ft_base::NoMemory;
+use std::alloc::Global;
+use std::marker::Model;
+
+/// A region for values of one type. Contracts see the list of its values and the number `spare` of those that it
+/// still has room for. It takes its memory when it is opened, and gives it back when it is dropped.
+pub struct Pool<T> {
+    start: Start<T>,
+    cells: Cells<T, Global>,
+    len: usize,
+    room: usize,
+    alloc: Global,
+}
+
+impl<T> Model for Pool<T> {
+    ghost use Rattle.std.specs.Prelude.{◌≡◌, ◌-◌, ◌≤◌, length, take};
+    ghost use Rattle.ft_pool.specs.Region.{Region, region, region_code};
+
+    ghost Value = { Region T };
+
+    ghost coded = { region_code T.code };
+
+    ghost view = { λ pool. region (take pool.len pool.cells.items) (pool.room - pool.len) };
+
+    ghost invariant = { λ pool. (pool.start.ptr ≡ pool.cells.at) × (pool.room ≡ pool.cells.room) × (pool.alloc ≡ pool.cells.heap) × (pool.len ≤ pool.room) × (pool.len ≤ length pool.cells.items) };
+}
+
+impl<T: Copy> Pool<T> {
+    /// An empty region with room for `room` values, in one block of memory. It is `NoMemory` where such a block can't
+    /// be had. No byte of the block is written.
+    pub fn open(alloc: Global, room: usize) -> Result<Pool<T>, NoMemory>
+        ensures { IfOk result (λ pool. pool ≡ region [] room) }
+    {
+        if !fits_block::<T>(room) {
+            return Err(NoMemory);
+        }
+        let (start, cells) = Cells::take(&alloc, room)?;
+        Ok(Pool {
+            start,
+            cells,
+            len: 0,
+            room,
+            alloc,
+        })
+    }
+
+    /// Adds a value at the end. There must be room to spare.
+    #[tactic(auto, using(crate::proofs::PlacesLemmas::puts))]
+    pub fn push(&mut self, item: T) -> Id<T>
+        requires { 0 < self.old.spare }
+        ensures id { result ≡ length self.old.items }
+        ensures items { self.new.items ≡ self.old.items ++ item ∷ [] }
+        ensures spare { self.new.spare + 1 ≡ self.old.spare }
+        ensures room { length self.new.items + self.new.spare ≡ length self.old.items + self.old.spare }
+    {
+        let place = self.len;
+        self.cells.put(self.start, place, item);
+        self.len = place + 1;
+        Id::new(place)
+    }
+
+    /// The value with this id.
+    pub fn get(&self, id: Id<T>) -> T
+        requires { id < length self.now.items }
+        ensures { slice_get self.now.items id ≡ Some result }
+    {
+        *self.cells.get(self.start, id.number())
+    }
+
+    /// Puts a value in the place of the one with this id. The others stay.
+    #[tactic(auto, using(crate::proofs::PlacesLemmas::puts))]
+    pub fn set(&mut self, id: Id<T>, item: T)
+        requires { id < length self.old.items }
+        ensures items { self.new.items ≡ slice_set self.old.items id item }
+        ensures spare { self.new.spare ≡ self.old.spare }
+        ensures room { length self.new.items + self.new.spare ≡ length self.old.items + self.old.spare }
+    {
+        self.cells.put(self.start, id.number(), item);
+    }
+
+    /// How far the region is filled, to come back to by `release`.
+    pub fn mark(&self) -> Mark
+        ensures { result ≡ length self.now.items }
+    {
+        Mark::new(self.len)
+    }
+
+    /// Keeps the values that were there at the mark, and gives the room of the others back.
+    pub fn release(&mut self, mark: Mark)
+        requires { mark ≤ length self.old.items }
+        ensures items { self.new.items ≡ take mark self.old.items }
+        ensures spare { self.new.spare ≡ self.old.spare + (length self.old.items - mark) }
+        ensures room { length self.new.items + self.new.spare ≡ length self.old.items + self.old.spare }
+    {
+        self.len = mark.len();
+    }
+
+    /// How many values there are.
+    pub fn len(&self) -> usize
+        ensures { result ≡ length self.now.items }
+    {
+        self.len
+    }
+
+    /// How many more values there is room for.
+    pub fn spare(&self) -> usize
+        ensures { result ≡ self.now.spare }
+    {
+        self.room - self.len
+    }
+}
+
+impl<T> Drop for Pool<T> {
+    fn drop(self) {
+        let Pool {
+            start,
+            cells,
+            len: _,
+            room,
+            alloc,
+        } = self;
+        cells.give_back(start, room, &alloc);
+    }
+}
+
+#[cfg(test)]
+mod tests {
+    use super::*;
+    use std::test::Fail;
+
+    #[derive(Clone, Copy)]
+    struct Node {
+        value: u32,
+        next: Option<Id<Node>>,
+    }
+
+    /// Fills a region, reads each value back, and empties it again: the sum of the values, and how many there were.
+    fn filled(alloc: Global, room: usize) -> Result<(u64, usize, usize), NoMemory> {
+        let mut pool = Pool::open(alloc, room)?;
+        let start = pool.mark();
+        let mut sum = 0u64;
+        while pool.spare() > 0 {
+            let id = pool.push(pool.len() as u64);
+            pool.set(id, pool.get(id).wrapping_add(1));
+            sum = sum.wrapping_add(pool.get(id));
+        }
+        let len = pool.len();
+        pool.release(start);
+        Ok((sum, len, pool.spare()))
+    }
+
+    #[test]
+    fn fills_every_room(rt: HostRuntime) -> Result<(), Fail> {
+        for (room, sum) in [(0, 0), (1, 1), (2, 3), (1_000_000, 500_000_500_000)] {
+            assert_eq!(rt; filled(rt.alloc(), room)?, (sum, room, room));
+        }
+        for (room, opens) in [
+            (40_000_000, true),
+            (1 << 60, false),
+            (1 << 61, false),
+            (usize::MAX, false),
+        ] {
+            assert_eq!(rt; Pool::<u64>::open(rt.alloc(), room).is_ok(), opens);
+        }
+        Ok(())
+    }
+
+    #[test]
+    fn comes_back_to_a_mark(rt: HostRuntime) -> Result<(), Fail> {
+        let mut pool = Pool::open(rt.alloc(), 2)?;
+        let seven = pool.push(Node {
+            value: 7,
+            next: None,
+        });
+        let mark = pool.mark();
+        let eight = pool.push(Node {
+            value: 8,
+            next: Some(seven),
+        });
+        assert_eq!(rt; pool.spare(), 0);
+        assert_eq!(rt; (pool.get(seven).value, pool.get(eight).value), (7, 8));
+        assert!(rt; pool.get(eight).next.is_some());
+        pool.release(mark);
+        assert_eq!(rt;
+            (pool.len(), pool.spare(), pool.get(seven).value),
+            (1, 1, 7)
+        );
+        let nine = pool.push(Node {
+            value: 9,
+            next: None,
+        });
+        assert_eq!(rt; (pool.get(seven).value, pool.get(nine).value), (7, 9));
+        Ok(())
+    }
+}
