@@ -80,3 +80,43 @@ impl Duplicate for History {
         })
     }
 }
+
+#[cfg(test)]
+mod tests {
+    use super::*;
+    use crate::label::{Label, State};
+    use ft_base::Text;
+    use std::test::Fail;
+
+    #[test]
+    fn keeps_its_scans(rt: HostRuntime) -> Result<(), Fail> {
+        let mut history = History::new(rt.alloc());
+        assert_eq!(rt; history.scans(), 0);
+        history.add(&[1, -2, 3])?;
+        history.add(&[])?;
+        history.add(&[4])?;
+        let copy = history.duplicate(rt.alloc())?;
+        assert_eq!(rt; copy.scans(), 3);
+        assert_eq!(rt; copy.width(0), 3);
+        assert_eq!(rt; copy.value(0, 1), -2);
+        assert_eq!(rt; copy.width(1), 0);
+        assert_eq!(rt; copy.row(2), [4].as_slice());
+        Ok(())
+    }
+
+    #[test]
+    fn copies_a_state(rt: HostRuntime) -> Result<(), Fail> {
+        let name: Text = List::copy_of(rt.alloc(), b"pressure")?;
+        let mut labels = List::new(rt.alloc());
+        labels.push(Label {
+            name,
+            members: List::new(rt.alloc()),
+        })?;
+        let values = List::copy_of(rt.alloc(), &[2000i64])?;
+        let copy = State { labels, values }.duplicate(rt.alloc())?;
+        assert_eq!(rt; copy.labels.len(), 1);
+        assert_eq!(rt; copy.labels.get(0).name.as_slice(), b"pressure".as_slice());
+        assert_eq!(rt; copy.values.as_slice(), [2000].as_slice());
+        Ok(())
+    }
+}
