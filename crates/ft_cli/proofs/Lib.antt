@@ -1,2 +1,4 @@
 pub mod LexemeLemmas
 pub mod FormLemmas
+pub mod JoinLemmas
+pub mod TopLemmas

@@ -5,11 +5,16 @@ mod check;
 mod cursor;
 mod ended;
 mod form;
+mod judging;
 mod reader;
+mod rendering;
 mod report;
+mod top;
 
 pub use cursor::Refusal;
 pub use ended::Ended;
 pub use form::{Bound, Entry, Form, Guard, Row, TableRows, Variable, Variables};
 pub use reader::read_form;
+pub use rendering::report_text;
 pub use report::{Report, Which};
+pub use top::{file_words, run};
