@@ -5,3 +5,5 @@ pub mod RangeLemmas
 pub mod CellRows
 pub mod VerdictLemmas
 pub mod AllowedLemmas
+pub mod JoinLemmas
+pub mod TopLemmas

@@ -1,14 +1,15 @@
 -- What the top call promises.
-use Rattle.std.specs.Prelude.{◌≡◌, ◌≢◌, ◌⊎◌, ◌++◌, take, ℕ, ◌<◌, ◌≤◌, List, [], ◌∷◌, length, Option, None, Some, codes, IfSome, if◌then◌else◌}
+use Rattle.std.specs.Prelude.{◌≡◌, ◌≢◌, ◌⊎◌, ◌++◌, take, ℕ, ℤ, ◌<◌, ◌≤◌, List, [], ◌∷◌, length, Option, None, Some, codes, IfSome, if◌then◌else◌}
 use Rattle.std.specs.List.{Contains}
 use Rattle.std.specs.Str.{bytes_eq}
+use Rattle.ft_core.specs.declared.tables.Tables.{Tables}
 use Rattle.ft_port.specs.Causes.{Rose}
 use Rattle.ft_port.specs.Fetching.{IsFile, IsTooLong}
 use Rattle.ft_cli.specs.declared.report.Which.TheVariants.{Set}
 use Rattle.ft_cli.specs.declared.report.Report.{Report}
 use Rattle.ft_cli.specs.declared.report.Report.TheVariants as report
 use Rattle.ft_cli.specs.declared.ended.Ended.{Ended}
-use Rattle.ft_cli.specs.Judgement.{IsJudgement}
+use Rattle.ft_cli.specs.Judgement.{IsJudgement, IsVerified}
 use Rattle.ft_cli.specs.Report.{text_of, status_of}
 
 -- the file F of the words `verify F`, the only form that there is
@@ -55,3 +56,13 @@ HasStatus faults_before faults_now ended = (ended.status ≡ status_of ended.rep
 pub record Writes (before now : Option (List ℕ)) (ended : Ended) : Type 0 where
   pub all : (old : List ℕ) → before ≡ Some old → ended.status ≢ 6 → now ≡ Some (old ++ text_of ended.report)
   pub part : (old : List ℕ) → before ≡ Some old → ended.status ≡ 6 → (n : ℕ) × (now ≡ Some (old ++ take n (text_of ended.report)))
+
+-- all the bytes that the file holds spell a set whose design refines its requirement, and the report keeps a list that is
+-- allowed and has `depth` scans
+pub record HasHeadline (told : Option (List ℕ)) (r : Report) : Type 0 where
+  pub set : Tables
+  pub list : List (List ℤ)
+  pub bytes : List ℕ
+  pub verified : r ≡ report.Verified set list
+  pub file : IsFile told set_limit bytes
+  pub means : IsVerified bytes set list

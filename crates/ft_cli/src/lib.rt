@@ -7,11 +7,15 @@ mod ended;
 mod form;
 mod judging;
 mod reader;
+mod rendering;
 mod report;
 mod rows;
 mod set;
+mod top;
 mod verdict;
 
 pub use ended::Ended;
 pub use judging::judge;
+pub use rendering::report_text;
 pub use report::{Report, Which};
+pub use top::{file_words, run};

@@ -1,0 +1,7 @@
+use Rattle.std.proofs.Common.{◌≡◌, map, filter, take}
+use Rattle.ft_core.specs.Kinds.{monitored}
+use Rattle.ft_cli.proofs.rendering.monitored_names.Given as goal
+
+abbrev pub invariant-loop-variable : goal.invariant-loop-variable
+invariant-loop-variable l =
+    map (λ name. name.now) l.names.items ≡ map (λ v. v.name) (filter (λ v. monitored v.kind) (take l.variable-index l.variables))

@@ -1,0 +1,111 @@
+ghost use Rattle.std.specs.Prelude.{◌≡◌, ◌⊎◌, Some, List, ℕ, map, string_bytes};
+ghost use Rattle.std.specs.Option.{option_copied};
+ghost use Rattle.std.specs.List.{Contains};
+ghost use Rattle.ft_cli.specs.Report.{text_of};
+ghost use Rattle.ft_cli.specs.Top.{set_file, NamesKnown, IsFileOutcome, IsOutcome, HasStatus, Writes, HasHeadline};
+
+use crate::ended::Ended;
+use crate::judging::judge;
+use crate::report::{Report, Which};
+use crate::rendering::{report_text, status_for};
+use ft_base::NoMemory;
+use ft_port::{Failed, FetchError, Shelf, Sink, fetch};
+use std::alloc::Global;
+
+#[cfg(test)]
+mod tests;
+
+/// The longest file of a set, in bytes.
+const SET_LIMIT: u64 = 4_194_304;
+
+/// The file F of the words `verify F`.
+fn file_of(words: &[String]) -> Option<&str>
+    ensures { option_copied result ≡ set_file (map string_bytes words.now) }
+{
+    match words {
+        [command, name] => (command.as_str() == "verify").then_some(name.as_str()),
+        _ => None,
+    }
+}
+
+/// The words after the first. Where the words are a form, the names of its files are among these.
+#[tactic(auto, using(crate::proofs::TopLemmas::known))]
+pub fn file_words(words: &[String]) -> &[String]
+    ensures { NamesKnown (map string_bytes words.now) (map string_bytes result.now) }
+{
+    match words {
+        [_, files @ ..] => files,
+        [] => words,
+    }
+}
+
+/// What the set in this file comes to.
+fn report_on_file<S: Shelf>(alloc: Global, name: &str, shelf: &mut S) -> Report
+    requires { Contains (S.names shelf.old) name.now }
+    ensures outcome { IsFileOutcome (S.told shelf.old name.now) (S.faults shelf.old name.now) (S.faults shelf.new name.now) (S.reach shelf.new name.now) result }
+    ensures told { S.told shelf.new ≡ S.told shelf.old }
+    ensures names { S.names shelf.new ≡ S.names shelf.old }
+{
+    match fetch(alloc, shelf, name, SET_LIMIT) {
+        Ok(text) => judge(alloc, text.as_slice()),
+        Err(FetchError::Failed) => Report::ReadFault,
+        Err(FetchError::TooLong) => Report::TooLong(Which::Set),
+        Err(FetchError::NoMemory) => Report::NoMemory,
+    }
+}
+
+/// What the words ask for.
+fn report_on<S: Shelf>(alloc: Global, words: &[String], shelf: &mut S) -> Report
+    requires { NamesKnown (map string_bytes words.now) (S.names shelf.old) }
+    ensures outcome { IsOutcome (set_file (map string_bytes words.now)) (S.told shelf.old) (S.faults shelf.old) (S.faults shelf.new) (S.reach shelf.new) result }
+    ensures told { S.told shelf.new ≡ S.told shelf.old }
+    ensures names { S.names shelf.new ≡ S.names shelf.old }
+{
+    match file_of(words) {
+        Some(name) => report_on_file(alloc, name, shelf),
+        None => Report::Usage,
+    }
+}
+
+/// Writes the text of a report at once.
+fn write_report<K: Sink>(report: Report, text: &[u8], sink: &mut K) -> Ended
+    requires { text.now ≡ text_of report }
+    ensures report { result.report ≡ report }
+    ensures status { HasStatus (K.faults sink.old) (K.faults sink.new) result }
+    ensures written { Writes (K.taken sink.old) (K.taken sink.new) result }
+{
+    match sink.write(text) {
+        Ok(()) => Ended {
+            status: status_for(&report),
+            report,
+        },
+        Err(Failed) => Ended { status: 6, report },
+    }
+}
+
+/// Writes a report, or that there was no memory for its text.
+fn answer<K: Sink>(alloc: Global, report: Report, sink: &mut K) -> Ended
+    ensures report { (result.report ≡ report) ⊎ (result.report ≡ Report.NoMemory) }
+    ensures status { HasStatus (K.faults sink.old) (K.faults sink.new) result }
+    ensures written { Writes (K.taken sink.old) (K.taken sink.new) result }
+{
+    match report_text(alloc, &report) {
+        Ok(text) => write_report(report, text.as_slice(), sink),
+        Err(NoMemory) => write_report(Report::NoMemory, b"no memory\n", sink),
+    }
+}
+
+/// Does what the words after the program's name ask for, with one write of the report. The files that the words
+/// name are among the shelf's.
+pub fn run<S: Shelf, K: Sink>(alloc: Global, words: &[String], shelf: &mut S, sink: &mut K) -> Ended
+    requires { NamesKnown (map string_bytes words.now) (S.names shelf.old) }
+    ensures headline { (name : List ℕ) → set_file (map string_bytes words.now) ≡ Some name → result.status ≡ 0 → HasHeadline (S.told shelf.old name) result.report }
+    ensures outcome { IsOutcome (set_file (map string_bytes words.now)) (S.told shelf.old) (S.faults shelf.old) (S.faults shelf.new) (S.reach shelf.new) result.report }
+    ensures status { HasStatus (K.faults sink.old) (K.faults sink.new) result }
+    ensures written { Writes (K.taken sink.old) (K.taken sink.new) result }
+    ensures told { S.told shelf.new ≡ S.told shelf.old }
+    ensures names { S.names shelf.new ≡ S.names shelf.old }
+{
+    let report = report_on(alloc, words, shelf);
+    answer(alloc, report, sink)
+}

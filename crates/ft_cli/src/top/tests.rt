@@ -1,0 +1,148 @@
+ghost use Rattle.std.specs.Prelude.{map, string_bytes, IfOk};
+ghost use Rattle.ft_port.specs.Counts.{names_of};
+ghost use Rattle.ft_cli.specs.Top.{NamesKnown};
+
+use super::{file_words, run};
+use crate::rendering::report_text;
+use crate::report::Report;
+use ft_base::{List, NoMemory, Text};
+use ft_port::{MemShelf, MemSink};
+use std::alloc::Global;
+use std::test::Fail;
+
+const USAGE: &[u8] = b"usage: ftv verify F\n";
+
+const SMALL: &[u8] = b"set small;
+period 50 ms;
+mon x : 0..9 init 0;
+con c : 0..1 init 0;
+input i : 0..9 init 0;
+output o : 0..1 init 0;
+in normal i { columns true; row true : x; }
+req normal c { columns true; row x >= 5 : 1; row x < 5 : 0; }
+sof normal o { columns true; row i >= 5 : 1; row i < 5 : 0; }
+out normal c { columns true; row true : o; }
+block whole { takes c, o; goal c; }
+";
+
+/// What the files that the words name hold, which reads and which writes fail.
+#[derive(Clone, Copy, Drop)]
+struct World<'c> {
+    content: Option<&'c [u8]>,
+    reads: &'c [u64],
+    writes: &'c [(u64, usize)],
+}
+
+fn words_of(alloc: Global, words: &[&str]) -> Result<Vec<String>, NoMemory> {
+    let mut list = Vec::new(alloc);
+    for word in words {
+        list.push(String::from_str(alloc, word)?)?;
+    }
+    Ok(list)
+}
+
+fn copy_of(alloc: Global, content: Option<&[u8]>) -> Result<Option<Text>, NoMemory> {
+    match content {
+        Some(bytes) => Ok(Some(List::copy_of(alloc, bytes)?)),
+        None => Ok(None),
+    }
+}
+
+/// A shelf on which each file that the words may name holds the same.
+fn shelf_of(alloc: Global, words: &[String], world: World) -> Result<MemShelf, NoMemory>
+    ensures { IfOk result (λ shelf. NamesKnown (map string_bytes words.now) (names_of shelf.counts)) }
+{
+    let mut files = List::new(alloc);
+    for name in file_words(words) {
+        let content = copy_of(alloc, world.content)?;
+        files.push((List::copy_of(alloc, name.as_bytes())?, content))?;
+    }
+    MemShelf::new(alloc, files, List::copy_of(alloc, world.reads)?)
+}
+
+/// The status, and what the sink took.
+fn answer(alloc: Global, words: &[&str], world: World) -> Result<(u8, Text), NoMemory> {
+    let words = words_of(alloc, words)?;
+    let mut shelf = shelf_of(alloc, words.as_slice(), world)?;
+    let mut sink = MemSink::open(alloc, 1000, List::copy_of(alloc, world.writes)?)?;
+    let ended = run(alloc, words.as_slice(), &mut shelf, &mut sink);
+    Ok((ended.status, List::copy_of(alloc, sink.taken())?))
+}
+
+#[test]
+fn answers_without_a_verdict(rt: HostRuntime) -> Result<(), Fail> {
+    let alloc = rt.alloc();
+    let long = Vec::from_elem(alloc, b' ', 4_194_305)?;
+    let long = long.as_slice();
+    let empty = World {
+        content: Some(b""),
+        reads: &[],
+        writes: &[],
+    };
+    let missing = World { content: None, ..empty };
+    let failing = World { reads: &[1], ..empty };
+    let failing_later = World { reads: &[2], ..empty };
+    let cut = World { writes: &[(1, 3)], ..empty };
+    let longest = World { content: Some(&long[1..]), ..empty };
+    let too_long = World { content: Some(long), ..empty };
+    let verify = ["verify", "f"].as_slice();
+    let rows = [
+        (&[] as &[&str], empty, 4, USAGE),
+        (&["verify"], empty, 4, USAGE),
+        (&["verify", "a", "b"], empty, 4, USAGE),
+        (&["print", "x"], empty, 4, USAGE),
+        (&["Verify", "x"], empty, 4, USAGE),
+        (verify, missing, 5, b"read fault\n"),
+        (verify, failing, 5, b"read fault\n"),
+        (verify, failing_later, 3, b"refused\nnot built\n"),
+        (verify, too_long, 10, b"too long: set\n"),
+        (verify, longest, 3, b"refused\nnot built\n"),
+        (verify, empty, 3, b"refused\nnot built\n"),
+        (verify, cut, 6, b"ref"),
+        (&["verify"], cut, 6, b"usa"),
+    ];
+    for (words, world, status, text) in rows {
+        let (found, taken) = answer(alloc, words, world)?;
+        assert_eq!(rt; found, status, "{words:?}");
+        assert_eq!(rt; taken.as_slice(), text, "{words:?}");
+    }
+    Ok(())
+}
+
+#[test]
+#[ignore]
+fn verifies_a_small_set(rt: HostRuntime) -> Result<(), Fail> {
+    let alloc = rt.alloc();
+    let world = World {
+        content: Some(SMALL),
+        reads: &[],
+        writes: &[],
+    };
+    let (status, taken) = answer(alloc, &["verify", "small.ftv"], world)?;
+    assert_eq!(rt; status, 0);
+    assert!(rt;
+        taken.as_slice().starts_with(
+            b"verified\nset small variables 4 tables 4 blocks 1 obligations 14\nnat list:\nx\n"
+        )
+    );
+    Ok(())
+}
+
+#[test]
+fn writes_reports(rt: HostRuntime) -> Result<(), Fail> {
+    let alloc = rt.alloc();
+    let rows = [
+        (Report::NoMemory, b"no memory\n".as_slice()),
+        (Report::Points, b"open\npoints\n"),
+        (
+            Report::Improper {
+                title: List::copy_of(alloc, b"req c")?,
+            },
+            b"refused\nImproper req c\n",
+        ),
+    ];
+    for (report, text) in rows {
+        assert_eq!(rt; report_text(alloc, &report)?.as_slice(), text);
+    }
+    Ok(())
+}
