@@ -1,5 +1,5 @@
 -- The list of four scans of the least value is allowed.
-use Rattle.std.proofs.Common.{◌≡◌, ◌≢◌, ◌∙◌, sym, ap, subst, refl, ℕ, zero, suc, ◌<◌, ℤ, pos, ◌≤ℤ◌, Bool, true, ◌&&◌, cond, List, [], ◌∷◌, length, slice_get, slice_index_or, Some, None, arith, true≢false}
+use Rattle.std.proofs.Common.{◌≡◌, ◌∙◌, sym, ap, subst, refl, ℕ, zero, suc, ◌<◌, ℤ, pos, ◌&&◌, [], ◌∷◌, length, slice_get, slice_index_or, Some, arith, true≢false}
 use Rattle.std.specs.Prelude.{IsTrue}
 use Rattle.std.specs.List.{list_all}
 use Rattle.std.proofs.lemmas.Int.{ints}
@@ -10,9 +10,9 @@ use Rattle.ft_core.specs.declared.tables.Var.{Var}
 use Rattle.ft_core.specs.declared.tables.VarKind.TheVariants.{Mon, Con, Input, Output}
 use Rattle.ft_core.specs.Kinds.{monitored, count_of, place_of}
 use Rattle.ft_mean.specs.Value.{truth}
-use Rattle.ft_mean.specs.Reading.{IsListOf, IsVar, reading_of, begins}
+use Rattle.ft_mean.specs.Reading.{IsVar, reading_of}
 use Rattle.ft_mean.specs.Memory.{look}
-use Rattle.ft_mean.specs.Allowed.{Allowed, IsMonitored, nat_at}
+use Rattle.ft_mean.specs.Allowed.{Allowed, nat_at}
 use Rattle.ft_mean.proofs.Traces.{reading_at}
 use Rattle.ft_cli.specs.Form.{IsGoodVariable, bound_value, bounds_of}
 use Rattle.ft_cli.specs.FormSet.{IsSetOf, vars_of, var_of}

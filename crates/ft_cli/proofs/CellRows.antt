@@ -1,7 +1,7 @@
 -- The cells of a form's table are its rows.
-use Rattle.std.proofs.Common.{◌≡◌, ◌∙◌, sym, ap, subst, refl, ℕ, zero, suc, ◌+◌, ℤ, Bool, true, false, ◌&&◌, ◌||◌, cond, List, [], ◌∷◌, ◌++◌, map, length, slice_index_or, Option, None, Some, arith, true≢false, append-nil}
-use Rattle.std.specs.Prelude.{IsTrue, ◌==◌, filter, count_by, int_le}
-use Rattle.std.specs.List.{All, find, list_any, list_all, flat_map, zip, enumerate_from}
+use Rattle.std.proofs.Common.{◌≡◌, ◌∙◌, sym, ap, subst, refl, ℕ, ◌+◌, ℤ, Bool, true, false, ◌&&◌, ◌||◌, cond, List, [], ◌∷◌, map, length, slice_index_or, Some, arith, true≢false}
+use Rattle.std.specs.Prelude.{◌==◌, filter, count_by, int_le}
+use Rattle.std.specs.List.{All, find, list_any, flat_map, zip, enumerate_from}
 use Rattle.std.specs.Ordering.{int_eq}
 use Rattle.std.proofs.lemmas.Bool.{and_parts, eq-eqb, eqb-true, cond-true}
 use Rattle.std.proofs.lemmas.Bool.Decides.{Decides-int_eq}
@@ -9,7 +9,7 @@ use Rattle.std.proofs.lemmas.Int.{ints}
 use Rattle.std.proofs.lemmas.List.Sums.{sum_by-cons}
 use Rattle.ft_base.specs.Interval.{IsWithin}
 use Rattle.ft_core.specs.declared.tables.Section.{Section}
-use Rattle.ft_core.specs.Grids.{Cell, cells, cells_for, row_cells}
+use Rattle.ft_core.specs.Grids.{Cell, cells_for, row_cells}
 use Rattle.ft_core.specs.declared.term.Cond.TheVariants as cond
 use Rattle.std.specs.Option.{option_map}
 use Rattle.ft_mean.specs.Value.{View, value, truth, compares}

@@ -1,5 +1,5 @@
 -- The set of a form is sound: what its tables read, that each variable has its table, and an order.
-use Rattle.std.proofs.Common.{◌≡◌, ◌∙◌, sym, ap, subst, refl, ℕ, zero, suc, ◌+◌, ◌<◌, ◌≤◌, ℤ, pos, ◌<ℤ◌, ◌≤ℤ◌, Bool, true, false, ◌||◌, ◌&&◌, cond, List, [], ◌∷◌, ◌++◌, map, length, slice_get, Option, Some, None, arith, ⊎_elim, true≢false, inl, inr}
+use Rattle.std.proofs.Common.{◌≡◌, ◌∙◌, sym, ap, subst, refl, ℕ, zero, suc, ◌<◌, ℤ, pos, Bool, true, false, ◌||◌, List, [], ◌∷◌, ◌++◌, map, slice_get, Some, arith, ⊎_elim, true≢false}
 use Rattle.std.specs.Prelude.{IsTrue, ◌==◌, if◌then◌else◌}
 use Rattle.std.specs.List.{Contains, flat_map, list_any}
 use Rattle.std.proofs.lemmas.Int.{ints}
@@ -10,10 +10,8 @@ use Rattle.ft_base.specs.Interval.{IsWithin}
 use Rattle.ft_core.specs.declared.tables.Table.{Table}
 use Rattle.ft_core.specs.declared.tables.Var.{Var}
 use Rattle.ft_core.specs.declared.tables.Memory.{Memory}
-use Rattle.ft_core.specs.declared.tables.VarKind.TheVariants.{Mon, Con, Input, Output}
 use Rattle.ft_core.specs.declared.tables.Section.{Section}
 use Rattle.ft_core.specs.declared.tables.Section.TheVariants as section
-use Rattle.ft_core.specs.declared.term.Term.{Term}
 use Rattle.ft_core.specs.declared.term.Term.TheOpen as tl
 use Rattle.ft_core.specs.declared.term.Term.TheVariants.{Num, Now, rolls-Num, rolls-Now}
 use Rattle.ft_core.specs.declared.term.Cond.{Cond}
@@ -22,9 +20,9 @@ use Rattle.ft_core.specs.declared.term.Cond.TheVariants as cond
 use Rattle.ft_core.specs.Kinds.{defined_kinds, is_of}
 use Rattle.ft_core.specs.Grids.{is_for, is_section, defines}
 use Rattle.ft_core.specs.Reads.{Read, at_now, at_before, of_memory, of_age, term_reads, cond_reads, grid_reads}
-use Rattle.ft_core.specs.Sound.{IsSound, IsRank, HasOrder, may_read, item_reads, is_current}
+use Rattle.ft_core.specs.Sound.{IsSound, may_read, item_reads, is_current}
 use Rattle.ft_core.proofs.TermLemmas.{reads-rolled, cond_reads-rolled}
-use Rattle.ft_cli.specs.Form.{IsGoodForm, AreGoodVariables, bounds_of}
+use Rattle.ft_cli.specs.Form.{IsGoodForm, AreGoodVariables}
 use Rattle.ft_cli.specs.FormSet.{vars_of, tables_of, table_of, cond_of, term_of}
 use Rattle.ft_cli.specs.declared.form.Guard.{Guard}
 use Rattle.ft_cli.specs.declared.form.Guard.TheVariants.{Always, Compare}

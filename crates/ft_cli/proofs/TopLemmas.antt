@@ -70,4 +70,4 @@ headline None told before now reach sink_before sink_now ended outcome status na
 headline (Some other) told before now reach sink_before sink_now ended outcome status name named zero_is =
     let same : other ≡ name = cc named in
     subst (λ n. HasHeadline (told n) ended.report) same
-        (earned_of (told other) (before other) (now other) (reach other) sink_before sink_now ended outcome status zero_is)
+    (earned_of (told other) (before other) (now other) (reach other) sink_before sink_now ended outcome status zero_is)

@@ -1,6 +1,6 @@
 -- Where the tests on a form pass, the tables of its set are proper, and its design refines its requirement.
-use Rattle.std.proofs.Common.{◌≡◌, ◌∙◌, sym, ap, subst, refl, ℕ, zero, suc, ◌+◌, ◌<◌, ◌≤◌, ℤ, pos, Bool, true, false, cond, List, [], ◌∷◌, ◌++◌, map, length, slice_get, slice_index_or, Option, None, Some, arith, ⊎_elim, true≢false, append-nil}
-use Rattle.std.specs.Prelude.{IsTrue, ◌==◌, filter}
+use Rattle.std.proofs.Common.{◌≡◌, ◌∙◌, sym, ap, subst, refl, ℕ, zero, suc, ◌<◌, ℤ, true, cond, List, [], length, slice_get, Some, arith, true≢false, append-nil}
+use Rattle.std.specs.Prelude.{IsTrue}
 use Rattle.std.specs.List.{list_any, flat_map}
 use Rattle.std.specs.Option.{option_and_then}
 use Rattle.std.specs.Ordering.{int_eq}
@@ -15,26 +15,25 @@ use Rattle.ft_core.specs.declared.tables.VarKind.TheVariants.{Mon, Con, Input, O
 use Rattle.ft_core.specs.declared.tables.Section.{Section}
 use Rattle.ft_core.specs.declared.tables.Section.TheVariants as section
 use Rattle.ft_core.specs.declared.tables.Side.TheVariants as side
-use Rattle.ft_core.specs.Kinds.{Kinds, monitored, controlled, inputs, defined_kinds, given_kinds, side_kinds, section_of}
-use Rattle.ft_core.specs.Grids.{cells_for, defines, is_section}
+use Rattle.ft_core.specs.Kinds.{Kinds, monitored, controlled, inputs, defined_kinds, side_kinds}
+use Rattle.ft_core.specs.Grids.{cells_for, is_section}
 use Rattle.ft_mean.specs.Value.{View, value}
-use Rattle.ft_mean.specs.Reading.{Scans, IsListOf, IsVar, reading_of}
+use Rattle.ft_mean.specs.Reading.{Scans, IsVar, reading_of}
 use Rattle.ft_mean.specs.Memory.{look}
 use Rattle.ft_mean.specs.Cells.{cells_of, defined, holding}
-use Rattle.ft_mean.specs.Proper.{IsLocal, IsProper, AllProper, HasOneCell}
-use Rattle.ft_mean.specs.Allowed.{Allowed}
-use Rattle.ft_mean.specs.Fits.{Fits, Maps, InputMap, OutputMap, Only, side_reading}
+use Rattle.ft_mean.specs.Proper.{IsProper, AllProper, HasOneCell}
+use Rattle.ft_mean.specs.Fits.{side_reading}
 use Rattle.ft_mean.specs.Refines.{Refines, Runs, SameAt}
 use Rattle.ft_mean.proofs.Traces.{one_trace}
 use Rattle.ft_mean.proofs.MapsLaw.{one_image}
-use Rattle.ft_cli.specs.Form.{bound_value, bounds_of}
+use Rattle.ft_cli.specs.Form.{bounds_of}
 use Rattle.ft_cli.specs.FormSet.{IsSetOf, vars_of, var_of, tables_of, table_of}
-use Rattle.ft_cli.specs.Rows.{IsProperOn, IsSameOn, result_at, required_at, designed_at}
+use Rattle.ft_cli.specs.Rows.{IsProperOn, result_at, required_at, designed_at}
 use Rattle.ft_cli.specs.Verdict.{IsRight}
 use Rattle.ft_cli.specs.declared.form.Row.{Row}
 use Rattle.ft_cli.specs.declared.form.Variable.{Variable}
 use Rattle.ft_cli.specs.declared.form.Form.{Form}
-use Rattle.ft_cli.proofs.CellRows.{OneResult, one-result, values-held, one-cell, only-value}
+use Rattle.ft_cli.proofs.CellRows.{one-result, values-held, one-cell, only-value}
 
 module _ (f : Form) (S : Tables) (is : IsSetOf f S) (right : IsRight f) where
   -- the variable at a place of the set

@@ -1,12 +1,11 @@
 -- What a report says of the bytes of a set.
-use Rattle.std.specs.Prelude.{◌≡◌, ◌⊎◌, ℕ, ◌+◌, ◌<◌, ℤ, pos, ◌+ℤ◌, ◌<ℤ◌, List, ◌++◌, [], ◌∷◌, length, slice_get, codes, Option, Some, None}
+use Rattle.std.specs.Prelude.{◌≡◌, ◌⊎◌, ℕ, ◌<◌, ℤ, pos, ◌+ℤ◌, ◌<ℤ◌, List, ◌++◌, length, slice_get, codes, Option, Some}
 use Rattle.ft_core.specs.declared.tables.Tables.{Tables}
 use Rattle.ft_core.specs.declared.tables.Table.{Table}
 use Rattle.ft_core.specs.declared.tables.Var.{Var}
 use Rattle.ft_core.specs.declared.tables.Grid.{Grid}
 use Rattle.ft_core.specs.declared.tables.Grid.TheVariants.{Normal, Inverted, Vector}
 use Rattle.ft_core.specs.Kinds.{monitored, inputs, outputs}
-use Rattle.ft_core.specs.Grids.{defines}
 use Rattle.ft_mean.specs.Reading.{IsVar}
 use Rattle.ft_mean.specs.Allowed.{Allowed}
 use Rattle.ft_mean.specs.Proper.{IsProper, AllProper}

@@ -1,5 +1,5 @@
 -- What the top call promises.
-use Rattle.std.specs.Prelude.{◌≡◌, ◌≢◌, ◌⊎◌, ◌++◌, take, ℕ, ℤ, ◌<◌, ◌≤◌, List, [], ◌∷◌, length, Option, None, Some, codes, IfSome, if◌then◌else◌}
+use Rattle.std.specs.Prelude.{◌≡◌, ◌≢◌, ◌⊎◌, ◌++◌, take, ℕ, ℤ, List, [], ◌∷◌, Option, None, Some, codes, IfSome, if◌then◌else◌}
 use Rattle.std.specs.List.{Contains}
 use Rattle.std.specs.Str.{bytes_eq}
 use Rattle.ft_core.specs.declared.tables.Tables.{Tables}

@@ -6,8 +6,8 @@ ghost use Rattle.ft_cli.specs.Top.{set_file, NamesKnown, IsFileOutcome, IsOutcom
 
 use crate::ended::Ended;
 use crate::judging::judge;
-use crate::report::{Report, Which};
 use crate::rendering::{report_text, status_for};
+use crate::report::{Report, Which};
 use ft_base::NoMemory;
 use ft_port::{Failed, FetchError, Shelf, Sink, fetch};
 use std::alloc::Global;

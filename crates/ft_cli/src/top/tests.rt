@@ -12,14 +12,23 @@ use std::test::Fail;
 
 const USAGE: &[u8] = b"usage: ftv verify F\n";
 
-const SMALL: &[u8] = b"set small;
-period 50 ms;
-mon x : 0..9 init 0;
+const VERIFIED: &[u8] =
+    b"verified\nset small variables 4 tables 4 blocks 1 obligations 14\nnat list:\nx\n0\n0\n0\n0\n";
+
+const NOT_BUILT: &[u8] = b"refused\nnot built\n";
+
+const MONITORED: &[u8] = b"mon x : 0..9 init 0;";
+
+const REQUIRED: &[u8] = b"req normal c { columns true; row x >= 5 : 1; row x < 5 : 0; }";
+
+const BETWEEN: &[u8] = b"
 con c : 0..1 init 0;
 input i : 0..9 init 0;
 output o : 0..1 init 0;
 in normal i { columns true; row true : x; }
-req normal c { columns true; row x >= 5 : 1; row x < 5 : 0; }
+";
+
+const AFTER: &[u8] = b"
 sof normal o { columns true; row i >= 5 : 1; row i < 5 : 0; }
 out normal c { columns true; row true : o; }
 block whole { takes c, o; goal c; }
@@ -79,12 +88,30 @@ fn answers_without_a_verdict(rt: HostRuntime) -> Result<(), Fail> {
         reads: &[],
         writes: &[],
     };
-    let missing = World { content: None, ..empty };
-    let failing = World { reads: &[1], ..empty };
-    let failing_later = World { reads: &[2], ..empty };
-    let cut = World { writes: &[(1, 3)], ..empty };
-    let longest = World { content: Some(&long[1..]), ..empty };
-    let too_long = World { content: Some(long), ..empty };
+    let missing = World {
+        content: None,
+        ..empty
+    };
+    let failing = World {
+        reads: &[1],
+        ..empty
+    };
+    let failing_later = World {
+        reads: &[2],
+        ..empty
+    };
+    let cut = World {
+        writes: &[(1, 3)],
+        ..empty
+    };
+    let longest = World {
+        content: Some(&long[1..]),
+        ..empty
+    };
+    let too_long = World {
+        content: Some(long),
+        ..empty
+    };
     let verify = ["verify", "f"].as_slice();
     let rows = [
         (&[] as &[&str], empty, 4, USAGE),
@@ -109,22 +136,88 @@ fn answers_without_a_verdict(rt: HostRuntime) -> Result<(), Fail> {
     Ok(())
 }
 
+/// A small set with these lines for its monitored variable and its required table.
+fn small_set(alloc: Global, monitored: &[u8], required: &[u8]) -> Result<Text, NoMemory> {
+    let mut text = List::copy_of(alloc, b"set small;\nperiod 50 ms;\n")?;
+    text.extend(monitored)?;
+    text.extend(BETWEEN)?;
+    text.extend(required)?;
+    text.extend(AFTER)?;
+    Ok(text)
+}
+
 #[test]
-#[ignore]
-fn verifies_a_small_set(rt: HostRuntime) -> Result<(), Fail> {
+fn judges_small_sets(rt: HostRuntime) -> Result<(), Fail> {
     let alloc = rt.alloc();
+    let rows = [
+        (MONITORED, REQUIRED, 0, VERIFIED),
+        (
+            MONITORED,
+            b"req normal c{columns true;row x>=05:1;row x<5:0;} # more\r",
+            0,
+            VERIFIED,
+        ),
+        (
+            MONITORED,
+            b"req normal c { columns true; row x >= 5 : 1; row x < 6 : 0; }",
+            3,
+            NOT_BUILT,
+        ),
+        (
+            MONITORED,
+            b"req normal c { columns true; row x > 5 : 1; row x < 5 : 0; }",
+            3,
+            NOT_BUILT,
+        ),
+        (
+            MONITORED,
+            b"req normal c { columns true; row x >= 6 : 1; row x < 6 : 0; }",
+            3,
+            NOT_BUILT,
+        ),
+        (
+            MONITORED,
+            b"req normal c { columns true; row x >= 5 : 2; row x < 5 : 0; }",
+            3,
+            NOT_BUILT,
+        ),
+        (
+            MONITORED,
+            b"req normal c { columns true; row x >= 5 : 1; row x < 5 : 0 }",
+            3,
+            NOT_BUILT,
+        ),
+        (b"mon x : -0..9 init 0;", REQUIRED, 0, VERIFIED),
+        (b"mon x : 0..9 init 10;", REQUIRED, 3, NOT_BUILT),
+        (b"mon x : 0..10 init 0;", REQUIRED, 3, NOT_BUILT),
+        (b"mon c : 0..9 init 0;", REQUIRED, 3, NOT_BUILT),
+    ];
+    for (monitored, required, status, wanted) in rows {
+        let text = small_set(alloc, monitored, required)?;
+        let world = World {
+            content: Some(text.as_slice()),
+            reads: &[],
+            writes: &[],
+        };
+        let (found, taken) = answer(alloc, &["verify", "small.ftv"], world)?;
+        assert_eq!(rt; found, status);
+        assert_eq!(rt; taken.as_slice(), wanted);
+    }
+    Ok(())
+}
+
+#[test]
+fn tells_a_failed_write(rt: HostRuntime) -> Result<(), Fail> {
+    let alloc = rt.alloc();
+    let text = small_set(alloc, MONITORED, REQUIRED)?;
     let world = World {
-        content: Some(SMALL),
+        content: Some(text.as_slice()),
         reads: &[],
-        writes: &[],
+        writes: &[(1, 3)],
     };
-    let (status, taken) = answer(alloc, &["verify", "small.ftv"], world)?;
-    assert_eq!(rt; status, 0);
-    assert!(rt;
-        taken.as_slice().starts_with(
-            b"verified\nset small variables 4 tables 4 blocks 1 obligations 14\nnat list:\nx\n"
-        )
-    );
+    let (found, taken) = answer(alloc, &["verify", "small.ftv"], world)?;
+    assert_eq!(rt; found, 6);
+    assert_eq!(rt; taken.as_slice(), b"ver".as_slice());
     Ok(())
 }
 

@@ -1,4 +1,4 @@
-use Rattle.std.proofs.Common.{◌≡◌, ◌++◌, map, take}
+use Rattle.std.proofs.Common.{◌≡◌, ◌++◌, take}
 use Rattle.ft_cli.specs.Report.{trace_text}
 use Rattle.ft_cli.proofs.rendering.add_trace.Given as goal
 
