@@ -1,8 +1,8 @@
 -- The tokens of each kind of expression, by those of its parts.
-use Rattle.std.proofs.Common.{◌≡◌, ◌∙◌, sym, ap, refl, ℕ, Bool, List, [], ◌∷◌, ◌++◌, codes, decimal}
+use Rattle.std.proofs.Common.{◌≡◌, ◌∙◌, sym, ap, ℕ, Bool, List, [], ◌∷◌, ◌++◌, codes, decimal}
 use Rattle.ft_base.specs.declared.place.Place.{Place}
 use Rattle.ft_tree.specs.declared.expr.Op.{Op}
-use Rattle.ft_tree.specs.declared.expr.Expr.{Expr, Expr-F, map-Expr, fold-Expr, roll-Expr, fold-roll-Expr}
+use Rattle.ft_tree.specs.declared.expr.Expr.{Expr, Expr-F, map-Expr, roll-Expr, fold-roll-Expr}
 use Rattle.ft_tree.specs.declared.expr.Expr.TheOpen as layer
 use Rattle.ft_tree.specs.declared.expr.Expr.TheVariants.{Num, Name, Truth, Prev, Age, Not, Neg, Two, rolls-Num, rolls-Name, rolls-Truth, rolls-Prev, rolls-Age, rolls-Not, rolls-Neg, rolls-Two}
 use Rattle.ft_tree.specs.declared.level.Level.TheVariants.{Negation, Unary, Atom}

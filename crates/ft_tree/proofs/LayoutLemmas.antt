@@ -1,13 +1,13 @@
 -- Lines that are written token by token have their layout.
-use Rattle.std.proofs.Common.{◌≡◌, ◌∙◌, sym, ap, subst, refl, ℕ, Bool, true, false, inl, inr, List, [], ◌∷◌, ◌++◌, ◌||◌, ◌&&◌, cond, codes, append_assoc}
+use Rattle.std.proofs.Common.{◌≡◌, ◌∙◌, sym, ap, refl, ℕ, Bool, true, false, inl, inr, List, [], ◌∷◌, ◌++◌, cond, codes, append_assoc}
 use Rattle.std.specs.List.{flat_map}
 use Rattle.std.proofs.lemmas.Bool.{cases_Bool}
 use Rattle.std.proofs.lemmas.List.{append-nil}
 use Rattle.std.proofs.lemmas.List.Concat.{flat_map-cons}
 use Rattle.ft_tree.specs.declared.writer.Last.{Last}
-use Rattle.ft_tree.specs.declared.writer.Last.TheVariants.{Start, Open, History, Other}
+use Rattle.ft_tree.specs.declared.writer.Last.TheVariants.{Start}
 use Rattle.ft_tree.specs.declared.writer.Writer.{Writer}
-use Rattle.ft_tree.specs.Line.{Line, Piece, gap, hugs_after, hugs_before, is_history, is_open, line_bytes, line_text, piece_text, text_after}
+use Rattle.ft_tree.specs.Line.{Line, Piece, gap, hugs_after, hugs_before, is_history, line_bytes, line_text, piece_text, text_after}
 use Rattle.ft_tree.specs.Writing.{after, closed, gap_of, indented, last_of, put, with_line, with_lines}
 use Rattle.ft_tree.proofs.WritingLemmas.{after-cons, after-none, lines-cons, lines-none}
 

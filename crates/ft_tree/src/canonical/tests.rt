@@ -3,6 +3,7 @@ use crate::expr::{Expr, Op};
 use crate::expression::write_expr;
 use crate::item::{Bound, FactItem, Kind, NatWord, Plain, Row, SectionWord, VRow, VarWord, Word};
 use ft_base::{Boxed, List, Place};
+use std::alloc::AllocError;
 use std::test::Fail;
 
 const HERE: Place = Place { line: 1, column: 1 };
@@ -132,119 +133,105 @@ fn grouped(alloc: Global, outer: Op, inner: Op, left: bool) -> Result<Expr, NoMe
     }
 }
 
-// Each operator, with those that take parentheses at its left and at its right.
+// The operators that take parentheses at the left and at the right of one.
+fn wrapped_beside(op: Op) -> (&'static str, &'static str) {
+    let comparisons = " or and = <> < <= > >= ";
+    let sums = " or and = <> < <= > >= + - ";
+    match op {
+        Op::Or => (" ", " or "),
+        Op::And => (" or ", " or and "),
+        Op::Eq | Op::Ne | Op::Lt | Op::Le | Op::Gt | Op::Ge => (comparisons, comparisons),
+        Op::Add | Op::Sub => (comparisons, sums),
+        Op::Mul | Op::Div => (sums, " or and = <> < <= > >= + - * div "),
+    }
+}
+
+fn expected(
+    alloc: Global,
+    signs: (&str, &str),
+    left: bool,
+    wrapped: bool,
+) -> Result<String, AllocError> {
+    let (sign, inner) = signs;
+    match (left, wrapped) {
+        (true, true) => format!(in alloc; "(a {inner} b) {sign} c"),
+        (true, false) => format!(in alloc; "a {inner} b {sign} c"),
+        (false, true) => format!(in alloc; "c {sign} (a {inner} b)"),
+        (false, false) => format!(in alloc; "c {sign} a {inner} b"),
+    }
+}
+
 #[test]
 fn parentheses_of_each_pair(rt: HostRuntime) -> Result<(), Fail> {
     let alloc = rt.alloc();
-    let comparisons = " or and = <> < <= > >= ";
-    let rows = [
-        (Op::Or, "or", " ", " or "),
-        (Op::And, "and", " or ", " or and "),
-        (Op::Eq, "=", comparisons, comparisons),
-        (Op::Ne, "<>", comparisons, comparisons),
-        (Op::Lt, "<", comparisons, comparisons),
-        (Op::Le, "<=", comparisons, comparisons),
-        (Op::Gt, ">", comparisons, comparisons),
-        (Op::Ge, ">=", comparisons, comparisons),
-        (Op::Add, "+", comparisons, " or and = <> < <= > >= + - "),
-        (Op::Sub, "-", comparisons, " or and = <> < <= > >= + - "),
-        (
-            Op::Mul,
-            "*",
-            " or and = <> < <= > >= + - ",
-            " or and = <> < <= > >= + - * div ",
-        ),
-        (
-            Op::Div,
-            "div",
-            " or and = <> < <= > >= + - ",
-            " or and = <> < <= > >= + - * div ",
-        ),
-    ];
-    for (outer, sign, left, right) in rows {
+    for (outer, sign) in OPERATORS {
+        let (left, right) = wrapped_beside(outer);
         for (inner, inner_sign) in OPERATORS {
             let key = format!(in alloc; " {inner_sign} ")?;
-            let plain = format!(in alloc; "a {inner_sign} b {sign} c")?;
-            let wrapped = format!(in alloc; "(a {inner_sign} b) {sign} c")?;
-            let expected = if left.contains(key.as_str()) {
-                wrapped
-            } else {
-                plain
-            };
-            assert_eq!(rt;
-                shown(alloc, &grouped(alloc, outer, inner, true)?)?.as_slice(),
-                expected.as_bytes()
-            );
-            let plain = format!(in alloc; "c {sign} a {inner_sign} b")?;
-            let wrapped = format!(in alloc; "c {sign} (a {inner_sign} b)")?;
-            let expected = if right.contains(key.as_str()) {
-                wrapped
-            } else {
-                plain
-            };
-            assert_eq!(rt;
-                shown(alloc, &grouped(alloc, outer, inner, false)?)?.as_slice(),
-                expected.as_bytes()
-            );
+            for (is_left, wrapped) in [(true, left), (false, right)] {
+                let text = expected(
+                    alloc,
+                    (sign, inner_sign),
+                    is_left,
+                    wrapped.contains(key.as_str()),
+                )?;
+                let expr = grouped(alloc, outer, inner, is_left)?;
+                assert_eq!(rt; shown(alloc, &expr)?.as_slice(), text.as_bytes());
+            }
         }
     }
     Ok(())
 }
 
+fn signed(alloc: Global, row: usize) -> Result<Expr, NoMemory> {
+    let a = name(alloc, "a")?;
+    match row {
+        0 => neg(alloc, a),
+        1 => neg(alloc, neg(alloc, a)?),
+        2 => neg(alloc, two(alloc, Op::Add, a, number(2))?),
+        3 => neg(alloc, two(alloc, Op::Mul, a, number(2))?),
+        4 => two(alloc, Op::Sub, number(1), neg(alloc, a)?),
+        5 => neg(alloc, not(alloc, a)?),
+        6 => not(alloc, neg(alloc, a)?),
+        7 => not(alloc, two(alloc, Op::And, a, truth(true))?),
+        8 => not(alloc, two(alloc, Op::Eq, a, truth(false))?),
+        9 => two(alloc, Op::Eq, not(alloc, a)?, number(0)),
+        10 => two(alloc, Op::And, not(alloc, a)?, prev(alloc, "b")?),
+        _ => Ok(Expr::Age {
+            name: text(alloc, "m")?,
+            place: HERE,
+        }),
+    }
+}
+
 #[test]
 fn signs_and_words_before_an_operand(rt: HostRuntime) -> Result<(), Fail> {
     let alloc = rt.alloc();
-    let a = || name(alloc, "a");
     let rows = [
-        (neg(alloc, a()?)?, "-a"),
-        (neg(alloc, neg(alloc, number(1))?)?, "--1"),
-        (
-            neg(alloc, two(alloc, Op::Add, a()?, number(2))?)?,
-            "-(a + 2)",
-        ),
-        (
-            neg(alloc, two(alloc, Op::Mul, a()?, number(2))?)?,
-            "-(a * 2)",
-        ),
-        (two(alloc, Op::Sub, a()?, neg(alloc, a()?)?)?, "a - -a"),
-        (
-            two(alloc, Op::Mul, neg(alloc, a()?)?, neg(alloc, a()?)?)?,
-            "-a * -a",
-        ),
-        (neg(alloc, not(alloc, a()?)?)?, "-(not a)"),
-        (not(alloc, neg(alloc, a()?)?)?, "not -a"),
-        (not(alloc, not(alloc, truth(true))?)?, "not not true"),
-        (
-            not(alloc, two(alloc, Op::And, a()?, a()?)?)?,
-            "not (a and a)",
-        ),
-        (not(alloc, two(alloc, Op::Eq, a()?, a()?)?)?, "not a = a"),
-        (two(alloc, Op::Eq, not(alloc, a()?)?, a()?)?, "(not a) = a"),
-        (two(alloc, Op::And, not(alloc, a()?)?, a()?)?, "not a and a"),
-        (
-            two(alloc, Op::Add, prev(alloc, "a")?, number(0))?,
-            "prev(a) + 0",
-        ),
-        (
-            Expr::Age {
-                name: text(alloc, "m")?,
-                place: HERE,
-            },
-            "age(m)",
-        ),
-        (truth(false), "false"),
-        (number(1000000000), "1000000000"),
+        "-a",
+        "--a",
+        "-(a + 2)",
+        "-(a * 2)",
+        "1 - -a",
+        "-(not a)",
+        "not -a",
+        "not (a and true)",
+        "not a = false",
+        "(not a) = 0",
+        "not a and prev(b)",
+        "age(m)",
     ];
-    for (expr, expected) in &rows {
-        assert_eq!(rt; shown(alloc, expr)?.as_slice(), expected.as_bytes());
+    for (row, expected) in rows.iter().enumerate() {
+        let expr = signed(alloc, row)?;
+        assert_eq!(rt; shown(alloc, &expr)?.as_slice(), expected.as_bytes());
     }
     Ok(())
 }
 
 const WHOLE: &str = "set whole;
 period 50 ms;
-splits 10;
-depth 3;
+splits 50;
+depth 50;
 const low = -5;
 type level = -3..low;
 type position = { shut, opened };
@@ -263,19 +250,19 @@ req normal c {
 }
 in inverted i {
   terms x, 0;
-  row true : r, not r;
+  row true : r, false;
 }
 out vector {
-  columns o, not o;
+  columns o, false;
   row c : 1, 0;
   row d : 0, 1;
 }
 nat first true;
-nat always x >= 0;
+nat always true;
 nat step prev(x) < x;
 block b {
   takes c, o;
-  uses tie, more;
+  uses more;
   shows tie : r;
   goal c;
 }
@@ -284,72 +271,84 @@ block e {
 }
 ";
 
-fn variables(alloc: Global, items: &mut List<Item>) -> Result<(), NoMemory> {
-    let rows = [
-        (
+fn variable(
+    alloc: Global,
+    kind: VarWord,
+    called: &str,
+    of: Kind,
+    init: Bound,
+) -> Result<Item, NoMemory> {
+    Ok(Item::Variable {
+        kind,
+        name: word(alloc, called)?,
+        of,
+        init,
+    })
+}
+
+fn declaration(alloc: Global, row: u8) -> Result<Item, NoMemory> {
+    match row {
+        0 => Ok(Item::Constant {
+            name: word(alloc, "low")?,
+            minus: true,
+            value: Number {
+                value: 5,
+                place: HERE,
+            },
+        }),
+        1 => Ok(Item::RangeType {
+            name: word(alloc, "level")?,
+            lo: bound(true, 3),
+            hi: named(alloc, "low")?,
+        }),
+        2 => {
+            let members = both(alloc, word(alloc, "shut")?, word(alloc, "opened")?)?;
+            Ok(Item::EnumType {
+                name: word(alloc, "position")?,
+                members,
+            })
+        }
+        3 => variable(
+            alloc,
             VarWord::Mon,
             "x",
             Kind::Range(bound(false, 0), bound(false, 9)),
             bound(false, 0),
         ),
-        (
+        4 => variable(
+            alloc,
             VarWord::Con,
             "c",
             Kind::Named(word(alloc, "position")?),
             named(alloc, "shut")?,
         ),
-        (
+        5 => variable(
+            alloc,
             VarWord::Input,
             "i",
             Kind::Named(word(alloc, "level")?),
             bound(true, 1),
         ),
-        (VarWord::Output, "o", Kind::Bool, init(true)),
-        (VarWord::ReqVar, "r", Kind::Bool, init(false)),
-        (VarWord::SofVar, "s", Kind::Bool, init(true)),
-    ];
-    for (kind, name, of, init) in rows {
-        items.push(Item::Variable {
-            kind,
-            name: word(alloc, name)?,
-            of,
-            init,
-        })?;
+        6 => variable(alloc, VarWord::Output, "o", Kind::Bool, init(true)),
+        7 => variable(alloc, VarWord::ReqVar, "r", Kind::Bool, init(false)),
+        _ => variable(alloc, VarWord::SofVar, "s", Kind::Bool, init(true)),
     }
-    Ok(())
 }
 
-fn declarations(alloc: Global, items: &mut List<Item>) -> Result<(), NoMemory> {
-    let value = Number {
-        value: 5,
-        place: HERE,
-    };
-    items.push(Item::Constant {
-        name: word(alloc, "low")?,
-        minus: true,
-        value,
-    })?;
-    items.push(Item::RangeType {
-        name: word(alloc, "level")?,
-        lo: bound(true, 3),
-        hi: named(alloc, "low")?,
-    })?;
-    let members = both(alloc, word(alloc, "shut")?, word(alloc, "opened")?)?;
-    items.push(Item::EnumType {
-        name: word(alloc, "position")?,
-        members,
-    })?;
-    variables(alloc, items)?;
+fn held(alloc: Global) -> Result<Item, NoMemory> {
     let cond = two(alloc, Op::Gt, name(alloc, "x")?, number(3))?;
-    items.push(Item::Held {
+    Ok(Item::Held {
         side: SectionWord::Req,
         name: word(alloc, "h")?,
         cond,
         hold: bound(false, 200),
-    })?;
+    })
+}
+
+fn hyst(alloc: Global) -> Result<Item, NoMemory> {
     let term = name(alloc, "i")?;
     let hi = named(alloc, "low")?;
-    items.push(Item::Hyst {
+    Ok(Item::Hyst {
         side: SectionWord::Sof,
         name: word(alloc, "g")?,
         term,
@@ -359,26 +358,30 @@ fn declarations(alloc: Global, items: &mut List<Item>) -> Result<(), NoMemory> {
     })
 }
 
-fn tables(alloc: Global, items: &mut List<Item>) -> Result<(), NoMemory> {
+fn normal(alloc: Global) -> Result<Item, NoMemory> {
     let first = Row {
         place: HERE,
         head: name(alloc, "r")?,
         entries: one(alloc, number(1))?,
     };
+    let head = not(alloc, name(alloc, "r")?)?;
     let second = Row {
         place: HERE,
-        head: not(alloc, name(alloc, "r")?)?,
+        head,
         entries: one(alloc, prev(alloc, "c")?)?,
     };
     let rows = both(alloc, first, second)?;
     let columns = one(alloc, truth(true))?;
-    items.push(Item::Normal {
+    Ok(Item::Normal {
         section: SectionWord::Req,
         target: word(alloc, "c")?,
         columns,
         rows,
-    })?;
-    let entries = both(alloc, name(alloc, "r")?, not(alloc, name(alloc, "r")?)?)?;
+    })
+}
+
+fn inverted(alloc: Global) -> Result<Item, NoMemory> {
+    let entries = both(alloc, name(alloc, "r")?, truth(false))?;
     let rows = one(
         alloc,
         Row {
@@ -388,12 +391,15 @@ fn tables(alloc: Global, items: &mut List<Item>) -> Result<(), NoMemory> {
         },
     )?;
     let terms = both(alloc, name(alloc, "x")?, number(0))?;
-    items.push(Item::Inverted {
+    Ok(Item::Inverted {
         section: SectionWord::In,
         target: word(alloc, "i")?,
         terms,
         rows,
-    })?;
+    })
+}
+
+fn vector(alloc: Global) -> Result<Item, NoMemory> {
     let first = VRow {
         place: HERE,
         target: word(alloc, "c")?,
@@ -404,31 +410,26 @@ fn tables(alloc: Global, items: &mut List<Item>) -> Result<(), NoMemory> {
         target: word(alloc, "d")?,
         entries: both(alloc, number(0), number(1))?,
     };
-    let columns = both(alloc, name(alloc, "o")?, not(alloc, name(alloc, "o")?)?)?;
-    items.push(Item::Vector {
+    let rows = both(alloc, first, second)?;
+    let columns = both(alloc, name(alloc, "o")?, truth(false))?;
+    Ok(Item::Vector {
         section: SectionWord::Out,
         columns,
-        rows: both(alloc, first, second)?,
+        rows,
     })
 }
 
-fn clauses(alloc: Global, items: &mut List<Item>) -> Result<(), NoMemory> {
-    items.push(Item::Nat {
-        moment: NatWord::First,
-        cond: truth(true),
-    })?;
-    let cond = two(alloc, Op::Ge, name(alloc, "x")?, number(0))?;
-    items.push(Item::Nat {
-        moment: NatWord::Always,
-        cond,
-    })?;
+fn step(alloc: Global) -> Result<Item, NoMemory> {
     let cond = two(alloc, Op::Lt, prev(alloc, "x")?, name(alloc, "x")?)?;
-    items.push(Item::Nat {
+    Ok(Item::Nat {
         moment: NatWord::Step,
         cond,
-    })?;
+    })
+}
+
+fn block(alloc: Global) -> Result<Item, NoMemory> {
     let takes = both(alloc, word(alloc, "c")?, word(alloc, "o")?)?;
-    let uses = both(alloc, word(alloc, "tie")?, word(alloc, "more")?)?;
+    let uses = one(alloc, word(alloc, "more")?)?;
     let shows = FactItem::Shows {
         name: word(alloc, "tie")?,
         cond: name(alloc, "r")?,
@@ -440,19 +441,22 @@ fn clauses(alloc: Global, items: &mut List<Item>) -> Result<(), NoMemory> {
             con: word(alloc, "c")?,
         },
     )?;
-    items.push(Item::Block {
+    Ok(Item::Block {
         name: word(alloc, "b")?,
         takes,
         uses,
         facts,
-    })?;
+    })
+}
+
+fn small_block(alloc: Global) -> Result<Item, NoMemory> {
     let facts = one(
         alloc,
         FactItem::Goal {
             con: word(alloc, "d")?,
         },
     )?;
-    items.push(Item::Block {
+    Ok(Item::Block {
         name: word(alloc, "e")?,
         takes: List::new(alloc),
         uses: List::new(alloc),
@@ -460,20 +464,44 @@ fn clauses(alloc: Global, items: &mut List<Item>) -> Result<(), NoMemory> {
     })
 }
 
+fn whole(alloc: Global) -> Result<List<Item>, NoMemory> {
+    let mut items = List::new(alloc);
+    for row in 0..9 {
+        items.push(declaration(alloc, row)?)?;
+    }
+    items.push(held(alloc)?)?;
+    items.push(hyst(alloc)?)?;
+    items.push(normal(alloc)?)?;
+    items.push(inverted(alloc)?)?;
+    items.push(vector(alloc)?)?;
+    items.push(Item::Nat {
+        moment: NatWord::First,
+        cond: truth(true),
+    })?;
+    items.push(Item::Nat {
+        moment: NatWord::Always,
+        cond: truth(true),
+    })?;
+    items.push(step(alloc)?)?;
+    items.push(block(alloc)?)?;
+    items.push(small_block(alloc)?)?;
+    Ok(items)
+}
+
 #[test]
 fn each_kind_of_item(rt: HostRuntime) -> Result<(), Fail> {
     let alloc = rt.alloc();
-    let mut items = List::new(alloc);
-    declarations(alloc, &mut items)?;
-    tables(alloc, &mut items)?;
-    clauses(alloc, &mut items)?;
-    let number = |value: u64| Number { value, place: HERE };
+    let items = whole(alloc)?;
+    let number = Number {
+        value: 50,
+        place: HERE,
+    };
     let written = write_parts(
         alloc,
         &text(alloc, "whole")?,
-        &number(50),
-        &Some(number(10)),
-        &Some(number(3)),
+        &number,
+        &Some(number),
+        &Some(number),
         items.as_slice(),
     )?;
     assert_eq!(rt; written.as_slice(), WHOLE.as_bytes());

@@ -1,4 +1,4 @@
-use Rattle.std.proofs.Common.{◌≡◌, ◌∙◌, ap, ◌++◌}
+use Rattle.std.proofs.Common.{◌∙◌, ap, ◌++◌}
 use Rattle.ft_tree.specs.declared.writer.Writer.{Writer}
 use Rattle.std.specs.List.{flat_map}
 use Rattle.ft_tree.specs.Line.{line_bytes}
