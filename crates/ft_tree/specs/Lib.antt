@@ -1,0 +1,7 @@
+pub mod Canonical
+pub mod Expression
+pub mod Level
+pub mod Limits
+pub mod Line
+pub mod Lines
+pub mod Writing

@@ -1,0 +1,22 @@
+//! The tree of a set's text, and its canonical text.
+#![tactic(auto)]
+
+mod canonical;
+mod expr;
+mod expression;
+mod item;
+mod items;
+mod level;
+mod lines;
+mod parts;
+mod tables;
+mod tree;
+mod writer;
+
+pub use canonical::write_tree;
+pub use expr::{Expr, Op};
+pub use item::{
+    Bound, FactItem, Item, Kind, NatWord, Number, Plain, Row, SectionWord, VRow, VarWord, Word,
+};
+pub use level::Level;
+pub use tree::Tree;
