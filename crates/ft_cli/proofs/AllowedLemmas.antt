@@ -1,4 +1,4 @@
--- The list of four scans of the least value is allowed.
+-- A list of scans of one monitored value is allowed.
 use Rattle.std.proofs.Common.{◌≡◌, ◌∙◌, sym, ap, subst, refl, ℕ, zero, suc, ◌<◌, ℤ, pos, ◌&&◌, [], ◌∷◌, length, slice_get, slice_index_or, Some, arith, true≢false}
 use Rattle.std.specs.Prelude.{IsTrue}
 use Rattle.std.specs.List.{list_all}
@@ -14,23 +14,22 @@ use Rattle.ft_mean.specs.Reading.{IsVar, reading_of}
 use Rattle.ft_mean.specs.Memory.{look}
 use Rattle.ft_mean.specs.Allowed.{Allowed, nat_at}
 use Rattle.ft_mean.proofs.Traces.{reading_at}
-use Rattle.ft_cli.specs.Form.{IsGoodVariable, bound_value, bounds_of}
+use Rattle.ft_cli.specs.Form.{bounds_of}
 use Rattle.ft_cli.specs.FormSet.{IsSetOf, vars_of, var_of}
-use Rattle.ft_cli.specs.Verdict.{lowest_list}
+use Rattle.ft_cli.specs.Verdict.{steady}
 use Rattle.ft_cli.specs.declared.form.Form.{Form}
 
 -- each scan is the value alone
-scan-at : (value : ℤ) (t : ℕ) → t < 4 → slice_index_or (lowest_list value) t [] ≡ value ∷ []
-scan-at value zero l = refl
-scan-at value (suc zero) l = refl
-scan-at value (suc (suc zero)) l = refl
-scan-at value (suc (suc (suc zero))) l = refl
-scan-at value (suc (suc (suc (suc t)))) l = absurd (omega (arith, l))
+scan-at : (n : ℕ) (value : ℤ) (t : ℕ) → t < n → slice_index_or (steady n value) t [] ≡ value ∷ []
+scan-at zero value t l = absurd (omega (arith, l))
+scan-at (suc n) value zero l = refl
+scan-at (suc n) value (suc t) l = scan-at n value t (omega (arith, l))
 
-module _ (f : Form) (S : Tables) (is : IsSetOf f S) (good : IsGoodVariable f.variables.monitored) where
-  abbrev lowest : ℤ
-  lowest = bound_value f.variables.monitored.lo
+long : (n : ℕ) (value : ℤ) → length (steady n value) ≡ n
+long zero value = refl
+long (suc n) value = ap suc (long n value)
 
+module _ (f : Form) (S : Tables) (is : IsSetOf f S) (n : ℕ) (value : ℤ) (within : IsWithin (bounds_of f.variables.monitored) value) where
   only-monitored : (x : ℕ) (v : Var) → IsVar S monitored x v → (0 ≡ x) × (var_of Mon f.variables.monitored ≡ v)
   only-monitored x v e = at x (ap (λ vs. slice_get vs x) (sym is.vars) ∙ e.0)
     where
@@ -41,31 +40,31 @@ module _ (f : Form) (S : Tables) (is : IsSetOf f S) (good : IsGoodVariable f.var
       at (suc (suc (suc zero))) there = absurd (true≢false (sym (ap (λ (u : Var). monitored u.kind) (same_Some (var_of Output f.variables.output) v there) ∙ e.1)))
       at (suc (suc (suc (suc y)))) there = absurd (none-some v there)
 
-  lowest-within : IsWithin (bounds_of f.variables.monitored) lowest
-  lowest-within = (omega (arith, ints), good.range.0)
+  pub reads-steady : (t x : ℕ) (v : Var) → t < n → IsVar S monitored x v → reading_of S monitored (steady n value) t x ≡ value
+  reads-steady t x v l e =
+      reading_at S monitored (steady n value) t x v e
+      ∙ ap (λ row. slice_index_or row (place_of monitored S.vars x) (pos 0)) (scan-at n value t l)
+      ∙ ap (λ y. slice_index_or (value ∷ []) (place_of monitored S.vars y) (pos 0)) (sym (only-monitored x v e).0)
 
-  reads-lowest : (t x : ℕ) (v : Var) → t < 4 → IsVar S monitored x v → reading_of S monitored (lowest_list lowest) t x ≡ lowest
-  reads-lowest t x v l e =
-      reading_at S monitored (lowest_list lowest) t x v e
-      ∙ ap (λ row. slice_index_or row (place_of monitored S.vars x) (pos 0)) (scan-at lowest t l)
-      ∙ ap (λ y. slice_index_or (lowest ∷ []) (place_of monitored S.vars y) (pos 0)) (sym (only-monitored x v e).0)
-
-  allowed-at : (t : ℕ) → IsTrue (nat_at S (reading_of S monitored (lowest_list lowest)) t)
+  allowed-at : (t : ℕ) → IsTrue (nat_at S (reading_of S monitored (steady n value)) t)
   allowed-at zero =
-      (λ i. list_all (truth (look S (reading_of S monitored (lowest_list lowest)) zero)) (is.always i)
-      && list_all (truth (look S (reading_of S monitored (lowest_list lowest)) zero)) (is.first i))
+      (λ i. list_all (truth (look S (reading_of S monitored (steady n value)) zero)) (is.always i)
+      && list_all (truth (look S (reading_of S monitored (steady n value)) zero)) (is.first i))
   allowed-at (suc t) =
-      (λ i. list_all (truth (look S (reading_of S monitored (lowest_list lowest)) (suc t))) (is.always i)
-      && list_all (truth (look S (reading_of S monitored (lowest_list lowest)) (suc t))) (is.step i))
+      (λ i. list_all (truth (look S (reading_of S monitored (steady n value)) (suc t))) (is.always i)
+      && list_all (truth (look S (reading_of S monitored (steady n value)) (suc t))) (is.step i))
 
-  pub lowest-allowed : Allowed S (lowest_list lowest)
-  lowest-allowed = record {
+  below : (t : ℕ) → t < length (steady n value) → t < n
+  below t l = subst (λ m. t < m) (long n value) l
+
+  pub steady-allowed : 0 < n → Allowed S (steady n value)
+  steady-allowed some = record {
     monitored_list = record {
-      nonempty = λ e. cc;
+      nonempty = λ e. omega (arith, some, sym (long n value) ∙ ap length e);
       values = record {
-        widths = λ t l. ap length (scan-at lowest t l) ∙ sym (ap (count_of monitored) is.vars);
-        ranges = λ t x v l e. subst (IsWithin v.range) (sym (reads-lowest t x v l e))
-            (subst (λ (u : Var). IsWithin u.range lowest) (only-monitored x v e).1 lowest-within);
+        widths = λ t l. ap length (scan-at n value t (below t l)) ∙ sym (ap (count_of monitored) is.vars);
+        ranges = λ t x v l e. subst (IsWithin v.range) (sym (reads-steady t x v (below t l) e))
+            (subst (λ (u : Var). IsWithin u.range value) (only-monitored x v e).1 within);
       };
     };
     clauses = λ t l. allowed-at t;

@@ -24,6 +24,7 @@ use Rattle.ft_cli.specs.declared.form.Entry.{Entry}
 use Rattle.ft_cli.specs.declared.form.Entry.TheVariants.{Number, Read}
 use Rattle.ft_cli.specs.declared.form.Row.{Row}
 use Rattle.ft_cli.specs.Form.{bound_value}
+use Rattle.ft_cli.proofs.RangeLemmas.{proper-at}
 
 -- the cell of a row
 abbrev cell_of : (n target read : ℕ) → Row → Cell
@@ -157,3 +158,25 @@ only-value V cs given y is any =
     any-values : (held : List Cell) → list_any (int_eq y) (map (λ c. value V c.term) held) ≡ list_any (λ c. int_eq y (value V c.term)) held
     any-values [] = refl
     any-values (c ∷ more) = ap (λ b. int_eq y (value V c.term) || b) (any-values more)
+
+-- and where one cell holds whose value is in the range, the rows are proper there
+from-cells : (V : View) (rows : List Row) (range : ℤ × ℤ) (z : ℤ) (held : List Cell) (kept : List Row) → filter (row_holds z) rows ≡ kept
+    → map (λ c. value V c.term) held ≡ map (row_value z) kept → length held ≡ 1 → All (λ c. IsWithin range (value V c.term)) held
+    → is_proper_at rows range z ≡ true
+from-cells V rows range z [] kept is same one all = absurd (omega (arith, one))
+from-cells V rows range z (c ∷ d ∷ more) kept is same one all = absurd (omega (arith, one))
+from-cells V rows range z (c ∷ []) [] is same one all = cc
+from-cells V rows range z (c ∷ []) (r ∷ q ∷ more) is same one all = cc
+from-cells V rows range z (c ∷ []) (r ∷ []) is same one all =
+    let given : value V c.term ≡ row_value z r = cc in
+    let within : IsWithin range (row_value z r) = subst (IsWithin range) given (all 0 c (omega arith)) in
+    let low : int_le range.0 (row_value z r) ≡ true = grind (arith, ints, within.0) in
+    let high : int_le (row_value z r) range.1 ≡ true = grind (arith, ints, within.1) in
+    sym (proper-at rows range z (row_value z r) 1 true (sym (count-filter (row_holds z) rows ∙ ap length is)) refl
+    (sym (ap (option_map (row_value z)) (find-filter (row_holds z) rows r [] is))) (sym (λ i. low i && high i)))
+
+pub rows-proper : (V : View) (read : ℕ) (s : Section) (target : ℕ) (rows : List Row) (range : ℤ × ℤ)
+    → HasOneCell V (cells_for target (table_of s target read rows).grid) range → is_proper_at rows range (V.now read) ≡ true
+rows-proper V read s target rows range one =
+    from-cells V rows range (V.now read) (holding V (cells_for target (table_of s target read rows).grid)) (filter (row_holds (V.now read)) rows) refl
+    (values-held V read s target rows) one.one one.in_range

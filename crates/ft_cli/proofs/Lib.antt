@@ -3,7 +3,8 @@ pub mod FormLemmas
 pub mod SetLemmas
 pub mod RangeLemmas
 pub mod CellRows
-pub mod VerdictLemmas
 pub mod AllowedLemmas
+pub mod VerdictLemmas
+pub mod ReportLemmas
 pub mod JoinLemmas
 pub mod TopLemmas

@@ -71,7 +71,7 @@ table-reads s target read rows = both-read read
     (mapped-read read (flat_map term_reads) (λ row. term_of read row.entry ∷ []) rows
     (λ row. both-read read (term_reads (term_of read row.entry)) [] (term-read read row.entry) (none-read read)))
 
-inits-good : (v : Variables) → AreGoodVariables v → (x : ℕ) (u : Var) → slice_get (vars_of v) x ≡ Some u → IsWithin u.range u.init
+pub inits-good : (v : Variables) → AreGoodVariables v → (x : ℕ) (u : Var) → slice_get (vars_of v) x ≡ Some u → IsWithin u.range u.init
 inits-good v good zero u e = subst (λ (w : Var). IsWithin w.range w.init) (same_Some _ u e) good.monitored.init
 inits-good v good (suc zero) u e = subst (λ (w : Var). IsWithin w.range w.init) (same_Some _ u e) good.controlled.init
 inits-good v good (suc (suc zero)) u e = subst (λ (w : Var). IsWithin w.range w.init) (same_Some _ u e) good.input.init

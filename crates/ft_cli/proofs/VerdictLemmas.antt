@@ -1,4 +1,4 @@
--- Where the tests on a form pass, the tables of its set are proper, and its design refines its requirement.
+-- Where the tests on a form pass, the tables of its set are proper, and its design refines its requirement or differs from it.
 use Rattle.std.proofs.Common.{◌≡◌, ◌∙◌, sym, ap, subst, refl, ℕ, zero, suc, ◌<◌, ℤ, true, cond, List, [], length, slice_get, Some, arith, true≢false, append-nil}
 use Rattle.std.specs.Prelude.{IsTrue}
 use Rattle.std.specs.List.{list_any, flat_map}
@@ -23,24 +23,26 @@ use Rattle.ft_mean.specs.Memory.{look}
 use Rattle.ft_mean.specs.Cells.{cells_of, defined, holding}
 use Rattle.ft_mean.specs.Proper.{IsProper, AllProper, HasOneCell}
 use Rattle.ft_mean.specs.Fits.{side_reading}
-use Rattle.ft_mean.specs.Refines.{Refines, Runs, SameAt}
+use Rattle.ft_mean.specs.Allowed.{Allowed}
+use Rattle.ft_mean.specs.Refines.{FirstDiffers, Refines, Runs, SameAt}
 use Rattle.ft_mean.proofs.Traces.{one_trace}
 use Rattle.ft_mean.proofs.MapsLaw.{one_image}
 use Rattle.ft_cli.specs.Form.{bounds_of}
 use Rattle.ft_cli.specs.FormSet.{IsSetOf, vars_of, var_of, tables_of, table_of}
-use Rattle.ft_cli.specs.Rows.{IsProperOn, result_at, required_at, designed_at}
-use Rattle.ft_cli.specs.Verdict.{IsRight}
+use Rattle.ft_cli.specs.Rows.{IsProperOn, IsSameOn, result_at, required_at, designed_at}
+use Rattle.ft_cli.specs.Verdict.{AreProper, DiffersAt, IsProperIn, place_in, steady}
 use Rattle.ft_cli.specs.declared.form.Row.{Row}
 use Rattle.ft_cli.specs.declared.form.Variable.{Variable}
 use Rattle.ft_cli.specs.declared.form.Form.{Form}
+use Rattle.ft_cli.proofs.AllowedLemmas.{reads-steady, steady-allowed}
 use Rattle.ft_cli.proofs.CellRows.{one-result, values-held, one-cell, only-value}
 
-module _ (f : Form) (S : Tables) (is : IsSetOf f S) (right : IsRight f) where
+module _ (f : Form) (S : Tables) (is : IsSetOf f S) where
   -- the variable at a place of the set
-  declared : (x : ℕ) (u : Var) → slice_get (vars_of f.variables) x ≡ Some u → slice_get S.vars x ≡ Some u
+  pub declared : (x : ℕ) (u : Var) → slice_get (vars_of f.variables) x ≡ Some u → slice_get S.vars x ≡ Some u
   declared x u e = ap (λ vs. slice_get vs x) is.vars ∙ e
 
-  is_declared : (x : ℕ) (u v : Var) → slice_get (vars_of f.variables) x ≡ Some u → slice_get S.vars x ≡ Some v → u ≡ v
+  pub is_declared : (x : ℕ) (u v : Var) → slice_get (vars_of f.variables) x ≡ Some u → slice_get S.vars x ≡ Some v → u ≡ v
   is_declared x u v e there = same_Some u v (sym (declared x u e) ∙ there)
 
   -- a table is proper where its rows are
@@ -54,19 +56,41 @@ module _ (f : Form) (S : Tables) (is : IsSetOf f S) (right : IsRight f) where
       (one-cell V (cells_for target (table_of s target read rows).grid) v.range one.given (values-held V read s target rows ∙ one.values)
       (subst (λ b. IsWithin b one.given) range one.in_range))
 
-  proper-at-place : (k : ℕ) (table : Table) → slice_get (tables_of f.rows) k ≡ Some table → IsProper S table
-  proper-at-place zero table e = subst (IsProper S) (same_Some _ table e)
-      (proper-table section.In 2 0 f.rows.input f.variables.input f.variables.monitored Input Mon refl refl right.input)
-  proper-at-place (suc zero) table e = subst (IsProper S) (same_Some _ table e)
-      (proper-table section.Req 1 0 f.rows.required f.variables.controlled f.variables.monitored Con Mon refl refl right.required)
-  proper-at-place (suc (suc zero)) table e = subst (IsProper S) (same_Some _ table e)
-      (proper-table section.Sof 3 2 f.rows.design f.variables.output f.variables.input Output Input refl refl right.design)
-  proper-at-place (suc (suc (suc zero))) table e = subst (IsProper S) (same_Some _ table e)
-      (proper-table section.Out 1 3 f.rows.output f.variables.controlled f.variables.output Con Output refl refl right.output)
-  proper-at-place (suc (suc (suc (suc k)))) table e = absurd (none-some table e)
+  -- the table of a section
+  abbrev pub target_in : Section → ℕ
+  target_in section.In = 2
+  target_in section.Req = 1
+  target_in section.Sof = 3
+  target_in section.Out = 1
 
-  pub all-proper : AllProper S
-  all-proper k table there = proper-at-place k table (ap (λ ts. slice_get ts k) (sym is.tables) ∙ there)
+  abbrev pub table_in : Section → Table
+  table_in section.In = table_of section.In 2 0 f.rows.input
+  table_in section.Req = table_of section.Req 1 0 f.rows.required
+  table_in section.Sof = table_of section.Sof 3 2 f.rows.design
+  table_in section.Out = table_of section.Out 1 3 f.rows.output
+
+  pub there-in : (s : Section) → slice_get S.tables (place_in s) ≡ Some (table_in s)
+  there-in section.In = ap (λ ts. slice_get ts 0) is.tables
+  there-in section.Req = ap (λ ts. slice_get ts 1) is.tables
+  there-in section.Sof = ap (λ ts. slice_get ts 2) is.tables
+  there-in section.Out = ap (λ ts. slice_get ts 3) is.tables
+
+  pub proper-in : (s : Section) → IsProperIn f s → IsProper S (table_in s)
+  proper-in section.In = proper-table section.In 2 0 f.rows.input f.variables.input f.variables.monitored Input Mon refl refl
+  proper-in section.Req = proper-table section.Req 1 0 f.rows.required f.variables.controlled f.variables.monitored Con Mon refl refl
+  proper-in section.Sof = proper-table section.Sof 3 2 f.rows.design f.variables.output f.variables.input Output Input refl refl
+  proper-in section.Out = proper-table section.Out 1 3 f.rows.output f.variables.controlled f.variables.output Con Output refl refl
+
+  -- each table is that of a section
+  pub section-at : (k : ℕ) (table : Table) → slice_get S.tables k ≡ Some table → (s : Section) × (k ≡ place_in s) × (table_in s ≡ table)
+  section-at k table there = at k (ap (λ ts. slice_get ts k) (sym is.tables) ∙ there)
+    where
+      at : (k : ℕ) → slice_get (tables_of f.rows) k ≡ Some table → (s : Section) × (k ≡ place_in s) × (table_in s ≡ table)
+      at zero e = (section.In, refl, same_Some _ table e)
+      at (suc zero) e = (section.Req, refl, same_Some _ table e)
+      at (suc (suc zero)) e = (section.Sof, refl, same_Some _ table e)
+      at (suc (suc (suc zero))) e = (section.Out, refl, same_Some _ table e)
+      at (suc (suc (suc (suc k)))) e = absurd (none-some table e)
 
   -- what a table gives a variable is the result of its rows
   given-by : (s : Section) (target read : ℕ) (rows : List Row) (t r : Variable) → cells_of S s target ≡ cells_for target (table_of s target read rows).grid
@@ -114,6 +138,10 @@ module _ (f : Form) (S : Tables) (is : IsSetOf f S) (right : IsRight f) where
       at (suc (suc (suc zero))) there = absurd (true≢false (sym (ap (λ (u : Var). controlled u.kind) (same_Some (var_of Output f.variables.output) v there) ∙ e.1)))
       at (suc (suc (suc (suc y)))) there = absurd (none-some v there)
 
+module _ (f : Form) (S : Tables) (is : IsSetOf f S) (proper : AreProper f) where
+  pub all-proper : AllProper S
+  all-proper k table there = let at = section-at f S is k table there in subst (IsProper S) at.2 (proper-in f S is at.0 (proper at.0))
+
   -- what a run puts out at a scan, by the rows
   module _ (h r i s c : Scans) (runs : Runs S h r i s c) (t : ℕ) (below : t < length h) where
     long_r : t < length r
@@ -132,50 +160,78 @@ module _ (f : Form) (S : Tables) (is : IsSetOf f S) (right : IsRight f) where
     x_of = reading_of S monitored h t 0
 
     x-within : IsWithin (bounds_of f.variables.monitored) x_of
-    x-within = runs.allowed.monitored_list.values.ranges t 0 _ below is-mon
+    x-within = runs.allowed.monitored_list.values.ranges t 0 _ below (is-mon f S is)
 
     same-x : side_reading S side.Req r t 0 ≡ x_of
-    same-x = runs.required.is.same_given t 0 _ long_r is-mon
+    same-x = runs.required.is.same_given t 0 _ long_r (is-mon f S is)
 
     required-is : required_at f.rows x_of ≡ Some (side_reading S side.Req r t 1)
     required-is = subst (λ z. result_at f.rows.required z ≡ Some (side_reading S side.Req r t 1)) same-x
-        (given-by section.Req 1 0 f.rows.required f.variables.controlled f.variables.monitored required-cells right.required
+        (given-by f S is section.Req 1 0 f.rows.required f.variables.controlled f.variables.monitored (required-cells f S is) (proper section.Req)
         (look S (side_reading S side.Req r) t) (side_reading S side.Req r t 1) (subst (IsWithin (bounds_of f.variables.monitored)) (sym same-x) x-within)
-        (runs.required.is.follows t long_r 1 _ (is-con (defined_kinds section.Req) refl)))
+        (runs.required.is.follows t long_r 1 _ (is-con f S is (defined_kinds section.Req) refl)))
 
     input-is : result_at f.rows.input x_of ≡ Some (reading_of S inputs i t 2)
-    input-is = given-by section.In 2 0 f.rows.input f.variables.input f.variables.monitored input-cells right.input
-        (look S (reading_of S monitored h) t) (reading_of S inputs i t 2) x-within (runs.inputs.is.follows t long_i 2 _ is-input)
+    input-is = given-by f S is section.In 2 0 f.rows.input f.variables.input f.variables.monitored (input-cells f S is) (proper section.In)
+        (look S (reading_of S monitored h) t) (reading_of S inputs i t 2) x-within (runs.inputs.is.follows t long_i 2 _ (is-input f S is))
 
     same-input : side_reading S side.Sof s t 2 ≡ reading_of S inputs i t 2
-    same-input = runs.design.is.same_given t 2 _ long_s is-input
+    same-input = runs.design.is.same_given t 2 _ long_s (is-input f S is)
 
     input-within : IsWithin (bounds_of f.variables.input) (side_reading S side.Sof s t 2)
-    input-within = subst (IsWithin (bounds_of f.variables.input)) (sym same-input) (runs.inputs.is.values.ranges t 2 _ long_i is-input)
+    input-within = subst (IsWithin (bounds_of f.variables.input)) (sym same-input) (runs.inputs.is.values.ranges t 2 _ long_i (is-input f S is))
 
     design-is : result_at f.rows.design (side_reading S side.Sof s t 2) ≡ Some (side_reading S side.Sof s t 3)
-    design-is = given-by section.Sof 3 2 f.rows.design f.variables.output f.variables.input design-cells right.design
-        (look S (side_reading S side.Sof s) t) (side_reading S side.Sof s t 3) input-within (runs.design.is.follows t long_s 3 _ (is-output (defined_kinds section.Sof) refl))
+    design-is = given-by f S is section.Sof 3 2 f.rows.design f.variables.output f.variables.input (design-cells f S is) (proper section.Sof)
+        (look S (side_reading S side.Sof s) t) (side_reading S side.Sof s t 3) input-within (runs.design.is.follows t long_s 3 _ (is-output f S is (defined_kinds section.Sof) refl))
 
     output-is : result_at f.rows.output (side_reading S side.Sof s t 3) ≡ Some (reading_of S controlled c t 1)
-    output-is = given-by section.Out 1 3 f.rows.output f.variables.controlled f.variables.output output-cells right.output
-        (look S (side_reading S side.Sof s) t) (reading_of S controlled c t 1) (runs.design.is.values.ranges t 3 _ long_s (is-output (side_kinds side.Sof) refl))
-        (runs.outputs.is.follows t long_c 1 _ (is-con controlled refl))
+    output-is = given-by f S is section.Out 1 3 f.rows.output f.variables.controlled f.variables.output (output-cells f S is) (proper section.Out)
+        (look S (side_reading S side.Sof s) t) (reading_of S controlled c t 1) (runs.design.is.values.ranges t 3 _ long_s (is-output f S is (side_kinds side.Sof) refl))
+        (runs.outputs.is.follows t long_c 1 _ (is-con f S is controlled refl))
 
     designed-is : designed_at f.rows x_of ≡ Some (reading_of S controlled c t 1)
     designed-is =
         ap (λ o. option_and_then (result_at f.rows.output) (option_and_then (result_at f.rows.design) o)) (input-is ∙ ap Some (sym same-input))
         ∙ ap (option_and_then (result_at f.rows.output)) design-is ∙ output-is
 
-    same-at : SameAt S r c t
-    same-at x v e = subst (λ y. side_reading S side.Req r t y ≡ reading_of S controlled c t y) (only-controlled x v e)
-        (same_Some _ _ (sym required-is ∙ right.same x_of x-within ∙ designed-is))
+    same-at : required_at f.rows x_of ≡ designed_at f.rows x_of → SameAt S r c t
+    same-at same x v e = subst (λ y. side_reading S side.Req r t y ≡ reading_of S controlled c t y) (only-controlled f S is x v e)
+        (same_Some _ _ (sym required-is ∙ same ∙ designed-is))
 
-  pub refines : Refines S
-  refines h allowed =
+    alike : side_reading S side.Req r t 1 ≡ reading_of S controlled c t 1 → required_at f.rows x_of ≡ designed_at f.rows x_of
+    alike e = required-is ∙ ap Some e ∙ sym designed-is
+
+  -- what an allowed list comes to
+  run-of : (h : Scans) → Allowed S h → (r i s c : Scans) × Runs S h r i s c
+  run-of h allowed =
       let r = one_trace S all-proper side.Req h allowed.monitored_list.values in
       let i = (one_image S all-proper).0 h allowed.monitored_list.values in
       let s = one_trace S all-proper side.Sof i.0 i.1.is.values in
       let c = (one_image S all-proper).1 s.0 s.1.is.values in
-      let runs : Runs S h r.0 i.0 s.0 c.0 = record { allowed = allowed; required = r.1; inputs = i.1; design = s.1; outputs = c.1 } in
-      (r.0, i.0, s.0, c.0, runs, λ t below. same-at h r.0 i.0 s.0 c.0 runs t below)
+      (r.0, i.0, s.0, c.0, record { allowed = allowed; required = r.1; inputs = i.1; design = s.1; outputs = c.1 })
+
+  pub refines : IsSameOn f.rows (bounds_of f.variables.monitored) → Refines S
+  refines same h allowed =
+      let (r, i, s, c, runs) = run-of h allowed in
+      (r, i, s, c, runs, λ t below. same-at h r i s c runs t below (same (x_of h r i s c runs t below) (x-within h r i s c runs t below)))
+
+  -- on a list of one scan at which the rows differ, the controlled value does
+  pub differs : (value : ℤ) → DiffersAt f.rows (bounds_of f.variables.monitored) value → FirstDiffers S (steady 1 value) 0
+  differs value at =
+      let allowed = steady-allowed f S is 1 value at.within (omega arith) in
+      let (r, i, s, c, runs) = run-of (steady 1 value) allowed in
+      let x-is = reads-steady f S is 1 value at.within 0 0 _ (omega arith) (is-mon f S is) in
+      record {
+        r = r;
+        i = i;
+        s = s;
+        c = c;
+        runs = runs;
+        in_list = omega arith;
+        same_before = λ t none. absurd (omega (arith, none));
+        variable = 1;
+        declared = var_of Con f.variables.controlled;
+        is_controlled = is-con f S is controlled refl;
+        differs = λ e. at.differs (subst (λ x. required_at f.rows x ≡ designed_at f.rows x) x-is (alike (steady 1 value) r i s c runs 0 (omega arith) e));
+      }

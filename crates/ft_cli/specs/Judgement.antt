@@ -49,16 +49,20 @@ pub record IsFirstImproper (S : Tables) (title : List ℕ) : Type 0 where
   pub before : (k : ℕ) (other : Table) → k < place → slice_get S.tables k ≡ Some other → IsProper S other
   pub titled : IsTitle S table title
 
--- the design of the set that the bytes spell refines its requirement, and the list is allowed and has `depth` scans
+-- no range is so large and the tables are proper; the design of the set that the bytes spell refines its requirement, and the list is
+-- allowed and has `depth` scans
 pub record IsVerified (bytes : List ℕ) (S : Tables) (list : List (List ℤ)) : Type 0 where
   pub spelled : Spells bytes S
   pub refines : Refines S
+  pub few : HasPoints S → ⊥
+  pub proper : AllProper S
   pub allowed : Allowed S list
   pub long : length list ≡ S.depth
 
--- on this list of one scan it first differs at scan 0
+-- no range is so large and the tables are proper; on this list of one scan the design first differs at scan 0
 pub record IsRefuted (bytes : List ℕ) (S : Tables) (list : List (List ℤ)) (scan : ℕ) : Type 0 where
   pub spelled : Spells bytes S
+  pub few : HasPoints S → ⊥
   pub proper : AllProper S
   pub differs : FirstDiffers S list scan
   pub one : length list ≡ 1
@@ -68,7 +72,7 @@ pub record IsRefuted (bytes : List ℕ) (S : Tables) (list : List (List ℤ)) (s
 abbrev pub IsJudgement : List ℕ → Report → Type 0
 IsJudgement bytes (report.Verified S list) = IsVerified bytes S list
 IsJudgement bytes (report.Refuted S list scan) = IsRefuted bytes S list scan
-IsJudgement bytes (report.Improper title) = (S : Tables) × Spells bytes S × IsFirstImproper S title
+IsJudgement bytes (report.Improper title) = (S : Tables) × Spells bytes S × (HasPoints S → ⊥) × IsFirstImproper S title
 IsJudgement bytes report.Points = (S : Tables) × Spells bytes S × HasPoints S
 IsJudgement bytes report.Unbuilt = Unit {0}
 IsJudgement bytes report.NoMemory = Unit {0}

@@ -1,17 +1,86 @@
--- What the verdict on a form tests.
-use Rattle.std.specs.Prelude.{ℤ, List, [], ◌∷◌}
+-- What the verdict on a form finds.
+use Rattle.std.specs.Prelude.{◌≡◌, ◌≢◌, ◌⊎◌, ℕ, zero, suc, ◌<◌, ℤ, false, List, [], ◌∷◌}
+use Rattle.ft_base.specs.Interval.{IsWithin}
+use Rattle.ft_core.specs.declared.tables.Section.{Section}
+use Rattle.ft_core.specs.declared.tables.Section.TheVariants as section
 use Rattle.ft_cli.specs.Form.{bounds_of}
-use Rattle.ft_cli.specs.Rows.{IsProperOn, IsSameOn}
+use Rattle.ft_cli.specs.Judgement.{IsLarge}
+use Rattle.ft_cli.specs.Rows.{IsProperOn, IsSameOn, is_proper_at, required_at, designed_at}
+use Rattle.ft_cli.specs.declared.form.Row.{Row}
+use Rattle.ft_cli.specs.declared.form.Variable.{Variable}
+use Rattle.ft_cli.specs.declared.form.Variables.{Variables}
+use Rattle.ft_cli.specs.declared.form.TableRows.{TableRows}
 use Rattle.ft_cli.specs.declared.form.Form.{Form}
+use Rattle.ft_cli.specs.declared.verdict.Finding.{Finding}
+use Rattle.ft_cli.specs.declared.verdict.Finding.TheVariants as finding
 
--- each table is proper wherever what it reads is in range, and the design puts out what the requirement asks for
-pub record IsRight (f : Form) : Type 0 where
-  pub input : IsProperOn f.rows.input (bounds_of f.variables.monitored) (bounds_of f.variables.input)
-  pub required : IsProperOn f.rows.required (bounds_of f.variables.monitored) (bounds_of f.variables.controlled)
-  pub design : IsProperOn f.rows.design (bounds_of f.variables.input) (bounds_of f.variables.output)
-  pub output : IsProperOn f.rows.output (bounds_of f.variables.output) (bounds_of f.variables.controlled)
-  pub same : IsSameOn f.rows (bounds_of f.variables.monitored)
+-- the place of a section's table in the text
+abbrev pub place_in : Section → ℕ
+place_in section.In = 0
+place_in section.Req = 1
+place_in section.Sof = 2
+place_in section.Out = 3
 
--- four scans of one value
-abbrev pub lowest_list : ℤ → List (List ℤ)
-lowest_list value = (value ∷ []) ∷ (value ∷ []) ∷ (value ∷ []) ∷ (value ∷ []) ∷ []
+abbrev pub rows_in : TableRows → Section → List Row
+rows_in t section.In = t.input
+rows_in t section.Req = t.required
+rows_in t section.Sof = t.design
+rows_in t section.Out = t.output
+
+-- the variable that a section's table reads
+abbrev pub read_in : Variables → Section → Variable
+read_in v section.In = v.monitored
+read_in v section.Req = v.monitored
+read_in v section.Sof = v.input
+read_in v section.Out = v.output
+
+-- the variable that it defines
+abbrev pub defined_in : Variables → Section → Variable
+defined_in v section.In = v.input
+defined_in v section.Req = v.controlled
+defined_in v section.Sof = v.output
+defined_in v section.Out = v.controlled
+
+-- the table of a section is proper wherever what it reads is in range
+abbrev pub IsProperIn : Form → Section → Type 0
+IsProperIn f s = IsProperOn (rows_in f.rows s) (bounds_of (read_in f.variables s)) (bounds_of (defined_in f.variables s))
+
+abbrev pub AreProper : Form → Type 0
+AreProper f = (s : Section) → IsProperIn f s
+
+-- at this value of the variable that they read, the rows don't give one value in range
+pub record IsImproperAt (rows : List Row) (read given : ℤ × ℤ) (z : ℤ) : Type 0 where
+  pub within : IsWithin read z
+  pub improper : is_proper_at rows given z ≡ false
+
+-- at some value they don't
+abbrev pub IsImproperOn : List Row → (read given : ℤ × ℤ) → Type 0
+IsImproperOn rows read given = (z : ℤ) × IsImproperAt rows read given z
+
+abbrev pub IsImproperIn : Form → Section → Type 0
+IsImproperIn f s = IsImproperOn (rows_in f.rows s) (bounds_of (read_in f.variables s)) (bounds_of (defined_in f.variables s))
+
+-- the table of this section isn't proper, and those before it are
+pub record IsFirstImproperIn (f : Form) (s : Section) : Type 0 where
+  pub improper : IsImproperIn f s
+  pub before : (z : Section) → place_in z < place_in s → IsProperIn f z
+
+-- one of the ranges that are tried has more than 100,000 values
+abbrev pub HasLarge : Form → Type 0
+HasLarge f = IsLarge (bounds_of f.variables.monitored) ⊎ IsLarge (bounds_of f.variables.input) ⊎ IsLarge (bounds_of f.variables.output)
+
+-- at this monitored value the design puts out something else
+pub record DiffersAt (t : TableRows) (monitored : ℤ × ℤ) (z : ℤ) : Type 0 where
+  pub within : IsWithin monitored z
+  pub differs : required_at t z ≢ designed_at t z
+
+abbrev pub IsFinding : Form → Finding → Type 0
+IsFinding f finding.Large = HasLarge f
+IsFinding f (finding.Improper s) = (HasLarge f → ⊥) × IsFirstImproperIn f s
+IsFinding f (finding.Differs z) = (HasLarge f → ⊥) × AreProper f × DiffersAt f.rows (bounds_of f.variables.monitored) z
+IsFinding f finding.Right = (HasLarge f → ⊥) × AreProper f × IsSameOn f.rows (bounds_of f.variables.monitored)
+
+-- scans of one value
+abbrev pub steady : ℕ → ℤ → List (List ℤ)
+steady zero value = []
+steady (suc n) value = (value ∷ []) ∷ steady n value

@@ -17,6 +17,17 @@ const VERIFIED: &[u8] =
 
 const NOT_BUILT: &[u8] = b"refused\nnot built\n";
 
+const REFUTED: &[u8] =
+    b"refuted\nset small first difference at scan 0\nreplay: ftv replay <set file> <this report>\ntrace:\nx\n5\n";
+
+const POINTS: &[u8] = b"open\npoints\n";
+
+const IMPROPER_INPUT: &[u8] = b"refused\nImproper in i\n";
+
+const IMPROPER_REQUIRED: &[u8] = b"refused\nImproper req c\n";
+
+const IMPROPER_DESIGN: &[u8] = b"refused\nImproper sof o\n";
+
 const MONITORED: &[u8] = b"mon x : 0..9 init 0;";
 
 const REQUIRED: &[u8] = b"req normal c { columns true; row x >= 5 : 1; row x < 5 : 0; }";
@@ -28,8 +39,9 @@ output o : 0..1 init 0;
 in normal i { columns true; row true : x; }
 ";
 
+const DESIGN: &[u8] = b"sof normal o { columns true; row i >= 5 : 1; row i < 5 : 0; }";
+
 const AFTER: &[u8] = b"
-sof normal o { columns true; row i >= 5 : 1; row i < 5 : 0; }
 out normal c { columns true; row true : o; }
 block whole { takes c, o; goal c; }
 ";
@@ -136,12 +148,19 @@ fn answers_without_a_verdict(rt: HostRuntime) -> Result<(), Fail> {
     Ok(())
 }
 
-/// A small set with these lines for its monitored variable and its required table.
-fn small_set(alloc: Global, monitored: &[u8], required: &[u8]) -> Result<Text, NoMemory> {
+/// A small set with these lines for its monitored variable, its requirement and its design.
+fn small_set(
+    alloc: Global,
+    monitored: &[u8],
+    required: &[u8],
+    design: &[u8],
+) -> Result<Text, NoMemory> {
     let mut text = List::copy_of(alloc, b"set small;\nperiod 50 ms;\n")?;
     text.extend(monitored)?;
     text.extend(BETWEEN)?;
     text.extend(required)?;
+    text.push(b'\n')?;
+    text.extend(design)?;
     text.extend(AFTER)?;
     Ok(text)
 }
@@ -150,50 +169,84 @@ fn small_set(alloc: Global, monitored: &[u8], required: &[u8]) -> Result<Text, N
 fn judges_small_sets(rt: HostRuntime) -> Result<(), Fail> {
     let alloc = rt.alloc();
     let rows = [
-        (MONITORED, REQUIRED, 0, VERIFIED),
+        (MONITORED, REQUIRED, DESIGN, 0, VERIFIED),
         (
             MONITORED,
             b"req normal c{columns true;row x>=05:1;row x<5:0;} # more\r",
+            DESIGN,
             0,
             VERIFIED,
         ),
+        (b"mon x : -0..9 init 0;", REQUIRED, DESIGN, 0, VERIFIED),
         (
             MONITORED,
-            b"req normal c { columns true; row x >= 5 : 1; row x < 6 : 0; }",
-            3,
-            NOT_BUILT,
-        ),
-        (
-            MONITORED,
-            b"req normal c { columns true; row x > 5 : 1; row x < 5 : 0; }",
-            3,
-            NOT_BUILT,
+            REQUIRED,
+            b"sof normal o { columns true; row i >= 6 : 1; row i < 6 : 0; }",
+            1,
+            REFUTED,
         ),
         (
             MONITORED,
             b"req normal c { columns true; row x >= 6 : 1; row x < 6 : 0; }",
+            DESIGN,
+            1,
+            REFUTED,
+        ),
+        (b"mon x : 0..100000 init 0;", REQUIRED, DESIGN, 2, POINTS),
+        (
+            b"mon x : 0..99999 init 0;",
+            REQUIRED,
+            DESIGN,
             3,
-            NOT_BUILT,
+            IMPROPER_INPUT,
+        ),
+        (
+            MONITORED,
+            b"req normal c { columns true; row x <= 5 : 0; row x >= 5 : 1; }",
+            DESIGN,
+            3,
+            IMPROPER_REQUIRED,
+        ),
+        (
+            MONITORED,
+            b"req normal c { columns true; row x > 5 : 1; row x < 5 : 0; }",
+            DESIGN,
+            3,
+            IMPROPER_REQUIRED,
         ),
         (
             MONITORED,
             b"req normal c { columns true; row x >= 5 : 2; row x < 5 : 0; }",
+            b"sof normal o { columns true; row i > 5 : 1; row i < 5 : 0; }",
+            3,
+            IMPROPER_REQUIRED,
+        ),
+        (
+            MONITORED,
+            REQUIRED,
+            b"sof normal o { columns true; row i >= 5 : 1; row i <> 4 : 0; }",
+            3,
+            IMPROPER_DESIGN,
+        ),
+        (
+            MONITORED,
+            b"req normal c { columns true; row x >= 5 : 1; row x < 5 : 0 }",
+            DESIGN,
             3,
             NOT_BUILT,
         ),
         (
             MONITORED,
-            b"req normal c { columns true; row x >= 5 : 1; row x < 5 : 0 }",
+            REQUIRED,
+            b"sof normal o { columns true; row i >= 5 : 1; row i < 5 : 0; }\nnat first true;",
             3,
             NOT_BUILT,
         ),
-        (b"mon x : -0..9 init 0;", REQUIRED, 0, VERIFIED),
-        (b"mon x : 0..9 init 10;", REQUIRED, 3, NOT_BUILT),
-        (b"mon x : 0..10 init 0;", REQUIRED, 3, NOT_BUILT),
-        (b"mon c : 0..9 init 0;", REQUIRED, 3, NOT_BUILT),
+        (b"mon x : 0..9 init 10;", REQUIRED, DESIGN, 3, NOT_BUILT),
+        (b"mon c : 0..9 init 0;", REQUIRED, DESIGN, 3, NOT_BUILT),
     ];
-    for (monitored, required, status, wanted) in rows {
-        let text = small_set(alloc, monitored, required)?;
+    for (monitored, required, design, status, wanted) in rows {
+        let text = small_set(alloc, monitored, required, design)?;
         let world = World {
             content: Some(text.as_slice()),
             reads: &[],
@@ -209,7 +262,7 @@ fn judges_small_sets(rt: HostRuntime) -> Result<(), Fail> {
 #[test]
 fn tells_a_failed_write(rt: HostRuntime) -> Result<(), Fail> {
     let alloc = rt.alloc();
-    let text = small_set(alloc, MONITORED, REQUIRED)?;
+    let text = small_set(alloc, MONITORED, REQUIRED, DESIGN)?;
     let world = World {
         content: Some(text.as_slice()),
         reads: &[],
