@@ -9,3 +9,6 @@ pub mod Exists
 pub mod Traces
 pub mod MapsLaw
 pub mod Examples
+pub mod Passes
+pub mod TripSet
+pub mod Trip
