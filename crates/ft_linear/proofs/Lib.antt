@@ -6,3 +6,5 @@ pub mod LowerLemmas
 pub mod Whole
 pub mod PartLaws
 pub mod MarksLemmas
+pub mod UnknownLemmas
+pub mod RuleLemmas

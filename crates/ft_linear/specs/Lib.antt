@@ -6,3 +6,5 @@ pub mod Forced
 pub mod Part
 pub mod Slots
 pub mod Marks
+pub mod Rules
+pub mod Cancelling

@@ -38,6 +38,10 @@ pub record AreJudged (f : Statement) (p : Region) (m : Findings) : Type 0 where
   pub values : (a : ℕ) → a < length f.atoms → slice_get m.values a ≡ Some (atom_value f p a)
   pub signs : (a : ℕ) → a < length f.atoms → slice_get m.signs a ≡ Some (signs_of f p a)
 
+abbrev pub sign_of : Bool → Signs → Bool
+sign_of true signs = signs.yes
+sign_of false signs = signs.no
+
 -- a literal that is forced: the atom where it is forced both ways
 abbrev pub literal_of : Signs → Option Bool
 literal_of signs = if signs.yes then Some true else if signs.no then Some false else None

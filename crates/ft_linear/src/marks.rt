@@ -1,6 +1,6 @@
 ghost use Rattle.std.specs.Prelude.{◌≡◌, ◌+◌, ◌<◌, length, map, sum, slice_get, IfOk, OnOk};
 ghost use Rattle.std.specs.Option.{option_map};
-ghost use Rattle.ft_linear.specs.Marks.{Findings, size_of, literal_of};
+ghost use Rattle.ft_linear.specs.Marks.{Findings, size_of, literal_of, sign_of};
 
 use crate::forcing::{Signs, Slot};
 use crate::formula::Formula;
@@ -109,5 +109,14 @@ impl Marks {
         ensures { slice_get self.now.values atom ≡ Some result }
     {
         self.values[atom as usize]
+    }
+
+    /// Whether a literal of an atom is forced.
+    pub(crate) fn has_sign(&self, atom: usize, value: bool) -> bool
+        requires { atom < length self.now.signs }
+        ensures { option_map (sign_of value) (slice_get self.now.signs atom) ≡ Some result }
+    {
+        let signs = self.signs[atom];
+        if value { signs.yes } else { signs.no }
     }
 }
