@@ -8,3 +8,6 @@ pub mod PartLaws
 pub mod MarksLemmas
 pub mod UnknownLemmas
 pub mod RuleLemmas
+pub mod CanonicalLemmas
+pub mod RawLemmas
+pub mod SettleLemmas

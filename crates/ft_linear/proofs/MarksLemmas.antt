@@ -1,5 +1,5 @@
 -- Marks by atom, and the room for the nodes of a tree.
-use Rattle.std.proofs.Common.{◌≡◌, ◌∙◌, inl, inr, sym, ap, subst, refl, ℕ, zero, suc, ◌+◌, ◌<◌, ◌≤◌, ℤ, Bool, true, false, List, [], ◌∷◌, ◌++◌, ◌||◌, ◌&&◌, length, map, arith, Option, Some, None, Ok, Err, Result, slice_get}
+use Rattle.std.proofs.Common.{◌≡◌, ◌∙◌, inl, inr, sym, ap, refl, ℕ, zero, suc, ◌+◌, ◌<◌, ◌≤◌, ℤ, Bool, true, false, List, [], ◌∷◌, ◌||◌, ◌&&◌, length, map, arith, Option, Some, None, Ok, Err, Result, slice_get}
 use Rattle.std.specs.Prelude.{unwrap_or, slice_set, sum, nat_lt, OnOk}
 use Rattle.std.specs.List.{list_any, list_all, range_with_len, flat_map}
 use Rattle.std.specs.Option.{option_map}
@@ -9,13 +9,12 @@ use Rattle.std.proofs.lemmas.List.Sums.{sum_by-cons}
 use Rattle.std.proofs.lemmas.List.FromFn.{fill_by_all}
 use Rattle.std.proofs.lemmas.Option.{slice_get_past, get_or_from_slice_get}
 use Rattle.ft_base.specs.declared.three.Three.{Three}
-use Rattle.ft_base.specs.declared.three.Three.TheVariants.{No, Maybe, Yes}
+use Rattle.ft_base.specs.declared.three.Three.TheVariants.{Maybe}
 use Rattle.ft_linear.specs.declared.node.Node.{Node}
-use Rattle.ft_linear.specs.declared.node.Node.TheVariants.{At, Not, And, Or}
 use Rattle.ft_linear.specs.declared.forcing.Signs.{Signs}
 use Rattle.ft_linear.specs.Formula.{Statement}
 use Rattle.ft_linear.specs.Forced.{forces}
-use Rattle.ft_linear.specs.Part.{Region, decision, fixed, fixed_form, value_by, atom_value, is_decision, is_forced_both, atoms_of}
+use Rattle.ft_linear.specs.Part.{Region, decision, fixed, fixed_form, value_by, atom_value, is_forced_both, atoms_of}
 use Rattle.ft_linear.specs.Slots.{value_at, slots_of, Adds, with_more}
 use Rattle.ft_linear.specs.Form.{Form}
 use Rattle.ft_linear.specs.Marks.{size_of, signs_of, decided_at}

@@ -14,7 +14,7 @@ use Rattle.ft_linear.specs.Form.{Form, Factor, sum_at, InArea, span_at, HasUnkno
 use Rattle.ft_linear.specs.Formula.{Statement, atom_at, form_truth, Satisfies, IsOver}
 use Rattle.ft_linear.specs.Truth.{truth}
 use Rattle.ft_linear.specs.Forced.{is_yes, value_of, is_no}
-use Rattle.ft_linear.specs.Part.{Region, agrees, is_agreed, is_against, is_forced_both, fixed_form, fixed, decision, value_by, atom_value, is_decision, forced, against, atoms_of, truth_of, PointOf}
+use Rattle.ft_linear.specs.Part.{Region, agrees, is_against, is_forced_both, fixed_form, fixed, decision, value_by, atom_value, is_decision, forced, against, atoms_of, truth_of, PointOf}
 use Rattle.ft_linear.proofs.ForcedLaws.{Agrees, SoundAtoms, no-false, yes-true, value_agrees, forced_so, same-bools, both-true}
 use Rattle.ft_linear.proofs.Whole.{times-up, times-down}
 

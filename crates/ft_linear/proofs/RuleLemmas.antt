@@ -1,5 +1,5 @@
 -- Lines and their sums: what is read of them, which unknowns cancel, and what they say of points.
-use Rattle.std.proofs.Common.{◌≡◌, ◌≢◌, ◌∙◌, ◌⊎◌, inl, inr, sym, ap, subst, refl, ℕ, zero, suc, ◌+◌, ◌<◌, ◌≤◌, ℤ, pos, negsuc, neg_ℤ, ◌+ℤ◌, ◌*ℤ◌, ◌≤ℤ◌, ◌<ℤ◌, Bool, true, false, ◌&&◌, ◌||◌, cond, List, [], ◌∷◌, ◌++◌, map, length, take, drop, Option, Some, None, slice_get, arith}
+use Rattle.std.proofs.Common.{◌≡◌, ◌≢◌, ◌∙◌, ◌⊎◌, inl, inr, sym, ap, subst, refl, ℕ, zero, suc, ◌+◌, ◌<◌, ℤ, pos, negsuc, neg_ℤ, ◌+ℤ◌, ◌*ℤ◌, ◌≤ℤ◌, ◌<ℤ◌, Bool, true, false, ◌&&◌, ◌||◌, cond, List, [], ◌∷◌, ◌++◌, length, take, drop, Option, Some, None, slice_get, arith}
 use Rattle.std.specs.Prelude.{nat_eq, int_lt, int_le, nat_lt, slice_index_or, is_some, IfSome}
 use Rattle.std.specs.Ordering.{int_eq}
 use Rattle.std.specs.List.{list_all}
@@ -14,13 +14,13 @@ use Rattle.ft_base.specs.Division.{floor_of}
 use Rattle.ft_linear.specs.declared.lines.Line.{Line}
 use Rattle.ft_linear.specs.declared.lines.Line.TheVariants.{Atom, Upper, Lower}
 use Rattle.ft_linear.specs.Form.{Factor, Form, AreRising, InArea, sum_at, form_at, span_at}
-use Rattle.ft_linear.specs.Formula.{Statement, atom_at, form_truth}
+use Rattle.ft_linear.specs.Formula.{Statement, form_truth}
 use Rattle.ft_linear.specs.Part.{Region, forced}
 use Rattle.ft_linear.specs.Rules.{Contradicts, HoldsForced, Tightens, is_line, is_multiplier, line_form, literal_form, upper_form, lower_form, times_of, factor_of, factors_in, constant_in, total_factor, total_constant, narrowed, up_to, down_to}
 use Rattle.ft_linear.specs.Cancelling.{is_kept, is_cancelled, are_cancelled}
 use Rattle.ft_linear.proofs.Whole.{times-up, mul-add, neg-mul, mul-neg, under-floor}
 use Rattle.ft_linear.proofs.ForcedLaws.{both-true, eq-nat}
-use Rattle.ft_linear.proofs.UnknownLemmas.{scaled, turned, cancels, alone, sum-append, sum-scaled, times-none, equal-to-itself, not-equal, factor_of-append, factor_of-scaled, factor_of-turned, sum-turned}
+use Rattle.ft_linear.proofs.UnknownLemmas.{scaled, cancels, alone, sum-append, sum-scaled, times-none, equal-to-itself, not-equal, factor_of-append, factor_of-scaled, factor_of-turned, sum-turned}
 
 -- an unknown below those of a form has the factor 0, and the first factor of an unknown is its only one
 none-below : (from u : ℕ) (fs : List Factor) → AreRising from fs → u < from → factor_of u fs ≡ pos 0

@@ -113,7 +113,7 @@ pub sum-append : (x : ℕ → ℤ) (fs gs : List Factor) → sum_at x (fs ++ gs)
 sum-append x [] gs = omega (arith, ints)
 sum-append x (f ∷ fs) gs = let r = sum-append x fs gs in omega (arith, ints, r)
 
-mul-assoc : (t : ℕ) (f y : ℤ) → (pos t *ℤ f) *ℤ y ≡ pos t *ℤ (f *ℤ y)
+pub mul-assoc : (t : ℕ) (f y : ℤ) → (pos t *ℤ f) *ℤ y ≡ pos t *ℤ (f *ℤ y)
 mul-assoc zero f y = ap (λ (z : ℤ). z *ℤ y) (zero-*ℤ f) ∙ zero-*ℤ y ∙ sym (zero-*ℤ (f *ℤ y))
 mul-assoc (suc t) f y = ap (λ (z : ℤ). z *ℤ y) (suc_ℤ-*ℤ (pos t) f) ∙ add-mul (pos t *ℤ f) f y ∙ ap (λ (z : ℤ). z +ℤ (f *ℤ y)) (mul-assoc t f y) ∙ sym (suc_ℤ-*ℤ (pos t) (f *ℤ y))
 

@@ -1,12 +1,12 @@
 -- Whether the unknowns of lines cancel in their sum, but for one that is kept.
-use Rattle.std.specs.Prelude.{ℕ, ℤ, pos, nat_eq, Bool, false, ◌||◌, List, Option, Some, None}
+use Rattle.std.specs.Prelude.{ℕ, pos, nat_eq, Bool, false, ◌||◌, List, Option, Some, None}
 use Rattle.std.specs.Ordering.{int_eq}
 use Rattle.std.specs.List.{list_all}
 use Rattle.ft_linear.specs.declared.lines.Line.{Line}
 use Rattle.ft_linear.specs.Form.{Factor}
 use Rattle.ft_linear.specs.Formula.{Statement}
 use Rattle.ft_linear.specs.Part.{Region}
-use Rattle.ft_linear.specs.Rules.{factors_in, line_form, total_factor}
+use Rattle.ft_linear.specs.Rules.{total_factor}
 
 abbrev pub is_kept : Option ℕ → ℕ → Bool
 is_kept None u = false

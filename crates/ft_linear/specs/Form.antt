@@ -1,5 +1,5 @@
 -- Whole linear forms: their values at points, and their least and greatest values over areas.
-use Rattle.std.specs.Prelude.{◌≡◌, ◌≢◌, ◌≤◌, ◌<◌, ◌+◌, ℕ, ℤ, pos, ◌+ℤ◌, ◌*ℤ◌, int_lt, nat_eq, List, [], ◌∷◌, Some, slice_get, slice_index_or, length, All, unsigned_abs, if◌then◌else◌}
+use Rattle.std.specs.Prelude.{◌≡◌, ◌≢◌, ◌≤◌, ◌<◌, ◌+◌, ℕ, ℤ, pos, ◌+ℤ◌, ◌*ℤ◌, int_lt, List, [], ◌∷◌, Some, slice_get, slice_index_or, length, All, unsigned_abs, if◌then◌else◌}
 use Rattle.ft_base.specs.Interval.{IsWithin}
 
 -- an unknown with its factor

@@ -1,5 +1,5 @@
 -- Formulas and the points that satisfy them.
-use Rattle.std.specs.Prelude.{◌≡◌, ℕ, ℤ, pos, int_le, nat_lt, Bool, true, false, List, Option, Some, None, slice_get, length, All}
+use Rattle.std.specs.Prelude.{◌≡◌, ℕ, ℤ, pos, int_le, nat_lt, Bool, true, false, List, Option, Some, None, slice_get, All}
 use Rattle.std.specs.List.{list_all}
 use Rattle.ft_linear.specs.declared.node.Node.{Node, Node-F, fold-Node}
 use Rattle.ft_linear.specs.declared.node.Node.TheOpen as layer

@@ -8,3 +8,4 @@ pub mod Slots
 pub mod Marks
 pub mod Rules
 pub mod Cancelling
+pub mod Canonical

@@ -1,5 +1,5 @@
 -- What a judgement leaves in the marks of a formula.
-use Rattle.std.specs.Prelude.{◌≡◌, ◌+◌, ◌<◌, ℕ, ℤ, Bool, true, false, List, Option, Some, None, slice_get, length, sum, if◌then◌else◌}
+use Rattle.std.specs.Prelude.{◌≡◌, ◌+◌, ◌<◌, ℕ, Bool, true, false, List, Option, Some, None, slice_get, length, sum, if◌then◌else◌}
 use Rattle.ft_base.specs.declared.three.Three.{Three}
 use Rattle.ft_linear.specs.declared.node.Node.{Node, Node-F, fold-Node}
 use Rattle.ft_linear.specs.declared.node.Node.TheOpen as layer

@@ -71,6 +71,14 @@ impl Formula {
         }
     }
 
+    /// The formula with these atoms and a tree that has no others.
+    pub(crate) fn of_placed(atoms: List<Lin>, root: Node) -> Formula
+        requires { atoms_below (length atoms) root ≡ true }
+        ensures { result ≡ record { atoms = atoms; root = root } }
+    {
+        Formula { atoms, root }
+    }
+
     /// The forms of the atoms, by number.
     pub fn atoms(&self) -> &[Lin]
         ensures { result.now ≡ self.now.atoms }

@@ -2,6 +2,7 @@
 #![tactic(auto)]
 
 mod area;
+mod canonical;
 mod forcing;
 mod formula;
 mod judging;
@@ -11,6 +12,7 @@ mod marks;
 mod node;
 mod part;
 mod rules;
+mod settling;
 mod sums;
 
 pub use area::Area;
@@ -22,3 +24,4 @@ pub use marks::Marks;
 pub use node::{Node, Raw};
 pub use part::Part;
 pub use rules::{contradict, tighten};
+pub use settling::settle;

@@ -88,6 +88,14 @@ impl Lin {
         self.constant
     }
 
+    /// The form with a proper list of factors and a proper constant.
+    pub(crate) fn of_proper(factors: List<(u32, i64)>, constant: i64) -> Lin
+        requires { IsProper factors constant }
+        ensures { result ≡ record { factors = factors; constant = constant } }
+    {
+        Lin { factors, constant }
+    }
+
     /// The value of the form at a point.
     pub(crate) fn value(&self, values: &[i64]) -> i128
         requires over { HasUnknowns (length values.now) self.now.factors }

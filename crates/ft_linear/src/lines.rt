@@ -1,6 +1,6 @@
 // The lines of a sum: forced literals and bounds, each with its form and its multiplier.
 
-ghost use Rattle.std.specs.Prelude.{◌≡◌, ◌≤◌, ◌<◌, ◌&&◌, ◌-ℤ◌, neg_ℤ, pos, true, [], ◌∷◌, length, slice_get, unsigned_abs, is_some, if◌then◌else◌};
+ghost use Rattle.std.specs.Prelude.{◌≡◌, ◌≤◌, ◌<◌, ◌+◌, ◌&&◌, ◌-ℤ◌, neg_ℤ, pos, true, [], ◌∷◌, length, slice_get, unsigned_abs, is_some, if◌then◌else◌};
 ghost use Rattle.ft_linear.specs.Form.{AreRising, IsSmall, span_at};
 ghost use Rattle.ft_linear.specs.Part.{forced};
 ghost use Rattle.ft_linear.specs.Marks.{AreFor, AreJudged};
@@ -124,7 +124,8 @@ fn unit_at(own: u32, unknown: u32, unit: i64) -> i64
     if own == unknown { unit } else { 0 }
 }
 
-fn signed(value: bool, number: i64) -> i64
+/// The number, or minus it.
+pub fn signed(value: bool, number: i64) -> i64
     requires { IsSmall number }
     ensures value { result ≡ if value then number else neg_ℤ number }
     ensures small { IsSmall result }
@@ -147,10 +148,11 @@ pub fn line_factor(formula: &Formula, part: &Part, line: &Line, unknown: u32) ->
     }
 }
 
-fn turned(value: bool, constant: i64) -> i64
+/// The constant, or 1 minus it.
+pub fn turned(value: bool, constant: i64) -> i64
     requires { IsSmall constant }
     ensures value { result ≡ if value then constant else (pos 1 -ℤ constant) }
-    ensures small { unsigned_abs result ≤ 4000000000000001 }
+    ensures small { unsigned_abs result ≤ unsigned_abs constant + 1 }
 {
     if value { constant } else { 1 - constant }
 }

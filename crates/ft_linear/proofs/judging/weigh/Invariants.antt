@@ -1,4 +1,4 @@
-use Rattle.std.proofs.Common.{◌≡◌, ◌<◌, ℕ, slice_get, Some, length}
+use Rattle.std.proofs.Common.{◌≡◌, ◌<◌, ℕ, slice_get, Some}
 use Rattle.std.specs.List.{list_any, list_all, range_with_len}
 use Rattle.ft_linear.specs.Part.{atom_value, is_against, is_agreed}
 use Rattle.ft_linear.specs.Marks.{decided_at}

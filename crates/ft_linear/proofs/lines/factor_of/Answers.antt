@@ -1,4 +1,4 @@
-use Rattle.std.proofs.Common.{◌≡◌, ◌∙◌, sym, ap, pos, drop, slice_index_or}
+use Rattle.std.proofs.Common.{◌∙◌, sym, ap, pos, drop, slice_index_or}
 use Rattle.ft_linear.specs.Form.{Factor}
 use Rattle.ft_linear.specs.Rules.{factor_of}
 use Rattle.ft_linear.proofs.FormLemmas.{small-at, small-same, small-read}

@@ -1,4 +1,4 @@
-use Rattle.std.proofs.Common.{◌≡◌, ◌∙◌, sym, ap, refl, arith, length, false, true, slice_index_or}
+use Rattle.std.proofs.Common.{◌∙◌, sym, ap, refl, arith, false, slice_index_or}
 use Rattle.std.proofs.lemmas.List.{take_all}
 use Rattle.std.specs.List.{list_all}
 use Rattle.ft_linear.specs.declared.lines.Line.{Line}

@@ -1,4 +1,4 @@
-use Rattle.std.proofs.Common.{rules, ◌≡◌, ◌∙◌, sym, ap, neg_ℤ, pos, ◌<ℤ◌, arith}
+use Rattle.std.proofs.Common.{rules, ◌∙◌, sym, ap, neg_ℤ, pos, ◌<ℤ◌, arith}
 use Rattle.std.specs.Int.{w128}
 use Rattle.std.proofs.lemmas.Int.{ints, to_z-of_z}
 use Rattle.ft_base.specs.Division.{floor_of}

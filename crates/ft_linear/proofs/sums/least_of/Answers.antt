@@ -1,4 +1,4 @@
-use Rattle.std.proofs.Common.{rules, ◌≡◌, ◌∙◌, sym, ap, slice_index_or, pos, ◌+ℤ◌}
+use Rattle.std.proofs.Common.{rules, ◌≡◌, ◌∙◌, sym, slice_index_or, pos, ◌+ℤ◌}
 use Rattle.std.specs.Int.{w128}
 use Rattle.std.proofs.lemmas.Int.{to_z-of_z}
 use Rattle.std.proofs.lemmas.List.{get_or_read}
