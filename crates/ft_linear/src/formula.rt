@@ -1,4 +1,4 @@
-ghost use Rattle.std.specs.Prelude.{◌≡◌, ◌≤◌, ◌+ℤ◌, ◌*ℤ◌, ℤ, true, length, All, unsigned_abs, slice_get, int_le};
+ghost use Rattle.std.specs.Prelude.{◌≡◌, ◌↔◌, IsTrue, ◌≤◌, ◌+ℤ◌, ◌*ℤ◌, ℤ, true, length, All, unsigned_abs, slice_get, int_le};
 ghost use Rattle.std.specs.Option.{SomeIff};
 ghost use Rattle.std.specs.List.{list_all, list_any};
 ghost use Rattle.ft_linear.specs.Form.{Form, IsSmall, HasUnknowns, values_at, form_at, sum_at};
@@ -58,6 +58,17 @@ fn below(node: &Node, count: usize) -> bool
     }
 }
 
+fn are_over(atoms: &[Lin], count: usize) -> bool
+    ensures { IsTrue result ↔ All (λ l. HasUnknowns count l.factors) atoms.now }
+{
+    for form in atoms {
+        if !form.is_over(count) {
+            return false;
+        }
+    }
+    true
+}
+
 impl Formula {
     /// The formula with these atoms, numbered from 0, and this tree. None exactly where the tree has an atom
     /// that isn't there. It takes no memory.
@@ -69,6 +80,13 @@ impl Formula {
         } else {
             None
         }
+    }
+
+    /// Whether each unknown of the atoms is below this number.
+    pub fn is_over(&self, count: usize) -> bool
+        ensures { IsTrue result ↔ IsOver count self.now }
+    {
+        are_over(self.atoms(), count)
     }
 
     /// The formula with these atoms and a tree that has no others.

@@ -24,4 +24,7 @@ pub use marks::Marks;
 pub use node::{Node, Raw};
 pub use part::Part;
 pub use rules::{contradict, tighten};
-pub use settling::settle;
+pub use settling::{is_moderate, settle};
+
+#[cfg(test)]
+mod tests;

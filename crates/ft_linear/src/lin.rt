@@ -1,4 +1,4 @@
-ghost use Rattle.std.specs.Prelude.{◌≡◌, ◌≢◌, ◌≤◌, ◌↔◌, IsTrue, pos, length, All};
+ghost use Rattle.std.specs.Prelude.{◌≡◌, ◌≢◌, ◌≤◌, ◌↔◌, IsTrue, pos, length, nat_le, unsigned_abs, All};
 ghost use Rattle.std.specs.Option.{SomeIff};
 ghost use Rattle.ft_linear.specs.Form.{IsProper, IsSmall, AreRising, HasUnknowns, values_at, form_at};
 ghost use Rattle.ft_linear.specs.Part.{fixed_form};
@@ -86,6 +86,23 @@ impl Lin {
         ensures small { IsSmall self.now.constant }
     {
         self.constant
+    }
+
+    /// Whether each unknown of the form is below this number.
+    pub fn is_over(&self, count: usize) -> bool
+        ensures { IsTrue result ↔ HasUnknowns count self.now.factors }
+    {
+        self.factors
+            .as_slice()
+            .iter()
+            .all(|factor| (factor.0 as usize) < count)
+    }
+
+    /// Whether the constant is at most 3,000,000,000,000,000 either way.
+    pub fn is_moderate(&self) -> bool
+        ensures { result ≡ nat_le (unsigned_abs self.now.constant) 3000000000000000 }
+    {
+        self.constant.unsigned_abs() <= 3_000_000_000_000_000
     }
 
     /// The form with a proper list of factors and a proper constant.

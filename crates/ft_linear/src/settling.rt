@@ -148,6 +148,31 @@ fn place(alloc: Global, raw: &Raw, forms: &[Lin]) -> Result<Node, NoMemory>
     }
 }
 
+#[cycle(is_moderate)]
+fn all_moderate(parts: &[Raw]) -> bool
+    ensures { result ≡ list_all is_moderate parts.now }
+{
+    for part in parts {
+        if !is_moderate(part) {
+            return false;
+        }
+    }
+    true
+}
+
+/// Whether each constant of the formula is at most 3,000,000,000,000,000 either way, as `settle` asks.
+#[cycle(is_moderate)]
+pub fn is_moderate(raw: &Raw) -> bool
+    ensures { result ≡ is_moderate raw.now }
+{
+    match raw {
+        Raw::Le(form) => form.is_moderate(),
+        Raw::Not(inner) => is_moderate(inner.get()),
+        Raw::And(parts) => all_moderate(parts.as_slice()),
+        Raw::Or(parts) => all_moderate(parts.as_slice()),
+    }
+}
+
 /// The formula with canonical atoms. The factors of each are divided by their greatest common divisor, its constant is
 /// rounded up, and its first factor is positive. A form without unknowns becomes an empty And or an empty Or. Equal
 /// atoms are one atom, and atoms are numbered from 0 by their first occurrence, read from left to right. The same points
