@@ -1,0 +1,11 @@
+pub mod Form
+pub mod Truth
+pub mod Formula
+pub mod Evaluate
+pub mod Forced
+pub mod Part
+pub mod Slots
+pub mod Marks
+pub mod Rules
+pub mod Cancelling
+pub mod Canonical

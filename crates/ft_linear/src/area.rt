@@ -1,0 +1,8 @@
+use ft_base::{List, Span};
+
+/// The span of each unknown, by number.
+#[derive(Debug, Drop)]
+pub struct Area {
+    /// The spans.
+    pub spans: List<Span>,
+}

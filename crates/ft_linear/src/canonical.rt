@@ -1,0 +1,108 @@
+// Canonical forms: divided by the greatest common divisor of the factors, and turned where the first is negative.
+
+ghost use Rattle.std.specs.Prelude.{◌≡◌, ◌≤◌, ◌<◌, ◌↔◌, IsTrue, IfOk, ℕ, pos, neg_ℤ, ◌-ℤ◌, length, map, nat_le, unsigned_abs, true, if◌then◌else◌};
+ghost use Rattle.std.specs.Int.{IsGcd};
+ghost use Rattle.ft_base.specs.Division.{floor_of};
+ghost use Rattle.ft_linear.specs.Form.{AreRising, IsSmall};
+ghost use Rattle.ft_linear.specs.Canonical.{canonical, divided, gcd_of, is_positive, quotient_of, same_form};
+
+use crate::lin::Lin;
+use crate::lines::{signed, turned};
+use ft_base::{List, NoMemory};
+use std::alloc::Global;
+
+fn gcd(first: u64, second: u64) -> u64
+    ensures { IsGcd first second result }
+{
+    let mut greater = first;
+    let mut less = second;
+    while less != 0 {
+        let rest = greater % less;
+        greater = less;
+        less = rest;
+    }
+    greater
+}
+
+fn gcd_of(factors: &[(u32, i64)]) -> u64
+    requires some { 0 < length factors.now }
+    requires rising { AreRising 0 factors.now }
+    ensures value { result ≡ gcd_of factors.now }
+    ensures positive { 0 < result }
+    ensures small { result ≤ 4000000000000000 }
+{
+    let mut divisor = 0;
+    for factor in factors {
+        divisor = gcd(divisor, factor.1.unsigned_abs());
+    }
+    divisor
+}
+
+/// Whether the first factor isn't negative.
+pub fn is_positive(factors: &[(u32, i64)]) -> bool
+    ensures { result ≡ is_positive factors.now }
+{
+    match factors {
+        [first, ..] => !(first.1 < 0),
+        [] => true,
+    }
+}
+
+/// Whether two forms are the same.
+pub fn same_form(first: &Lin, second: &Lin) -> bool
+    ensures { result ≡ same_form first.now second.now }
+{
+    first.constant() == second.constant() && first.factors() == second.factors()
+}
+
+fn quotient(factor: i64, divisor: u64) -> i64
+    requires factor { IsSmall factor }
+    requires positive { 0 < divisor }
+    requires divisor { divisor ≤ 4000000000000000 }
+    ensures value { result ≡ floor_of factor (pos divisor) }
+    ensures small { IsSmall result }
+{
+    factor.div_euclid(divisor as i64)
+}
+
+fn rounded_up(constant: i64, divisor: u64) -> i64
+    requires constant { unsigned_abs constant ≤ 3000000000000000 }
+    requires positive { 0 < divisor }
+    requires divisor { divisor ≤ 4000000000000000 }
+    ensures value { result ≡ neg_ℤ (floor_of (neg_ℤ constant) (pos divisor)) }
+    ensures small { unsigned_abs result ≤ 3000000000000000 }
+{
+    -(-constant).div_euclid(divisor as i64)
+}
+
+// The factors divided by a number, with their signs turned where the first is negative.
+fn canonical_factors(
+    alloc: Global,
+    factors: &[(u32, i64)],
+    divisor: u64,
+    positive: bool,
+) -> Result<List<(u32, i64)>, NoMemory>
+    requires rising { AreRising 0 factors.now }
+    requires positive { 0 < divisor }
+    requires divisor { divisor ≤ 4000000000000000 }
+    ensures { IfOk result (λ list. list ≡ map (quotient_of positive divisor) factors.now) }
+{
+    let mut list = List::new(alloc);
+    for factor in factors {
+        list.push((factor.0, signed(positive, quotient(factor.1, divisor))))?;
+    }
+    Ok(list)
+}
+
+/// The canonical form of a form's atom.
+pub fn canonical(alloc: Global, form: &Lin) -> Result<Lin, NoMemory>
+    requires some { 0 < length form.now.factors }
+    requires moderate { nat_le (unsigned_abs form.now.constant) 3000000000000000 ≡ true }
+    ensures { IfOk result (λ atom. atom ≡ canonical form.now) }
+{
+    let divisor = gcd_of(form.factors());
+    let positive = is_positive(form.factors());
+    let constant = turned(positive, rounded_up(form.constant(), divisor));
+    let factors = canonical_factors(alloc, form.factors(), divisor, positive)?;
+    Ok(Lin::of_proper(factors, constant))
+}

@@ -1,0 +1,139 @@
+ghost use Rattle.std.specs.Prelude.{◌≡◌, ◌≢◌, ◌≤◌, ◌↔◌, IsTrue, pos, length, nat_le, unsigned_abs, All};
+ghost use Rattle.std.specs.Option.{SomeIff};
+ghost use Rattle.ft_linear.specs.Form.{IsProper, IsSmall, AreRising, HasUnknowns, values_at, form_at};
+ghost use Rattle.ft_linear.specs.Part.{fixed_form};
+
+use crate::sums::{least_of, most_of, sum_of, whole};
+use ft_base::{List, Span, Three};
+use std::marker::Model;
+
+/// The greatest factor and the greatest constant of a form, either way.
+const LIMIT: u64 = 4_000_000_000_000_000;
+
+/// The most factors of a form.
+const FACTORS: usize = 10_000;
+
+/// A whole linear form: a sum of whole factors of unknowns, which are numbered from 0, and a constant.
+#[derive(Debug, Drop)]
+pub struct Lin {
+    factors: List<(u32, i64)>,
+    constant: i64,
+}
+
+impl Model for Lin {
+    ghost use Rattle.ft_linear.specs.Form.{Form, IsProper};
+
+    ghost Value = { Form };
+
+    ghost view = { λ form. record { factors = form.factors; constant = form.constant } };
+
+    ghost invariant = { λ form. IsProper form.factors form.constant };
+}
+
+fn is_factor(factor: i64) -> bool
+    ensures { IsTrue result ↔ ((factor ≢ pos 0) × IsSmall factor) }
+{
+    factor != 0 && factor.unsigned_abs() <= LIMIT
+}
+
+fn may_follow(from: u64, factor: (u32, i64)) -> bool
+    ensures { IsTrue result ↔ ((from ≤ factor.0) × (factor.1 ≢ pos 0) × IsSmall factor.1) }
+{
+    from <= u64::from(factor.0) && is_factor(factor.1)
+}
+
+fn are_rising(factors: &[(u32, i64)]) -> bool
+    ensures { IsTrue result ↔ AreRising 0 factors.now }
+{
+    let mut from = 0;
+    for factor in factors {
+        if !may_follow(from, *factor) {
+            return false;
+        }
+        from = u64::from(factor.0) + 1;
+    }
+    true
+}
+
+impl Lin {
+    /// The form with these factors and this constant. None exactly where the unknowns don't rise strictly,
+    /// a factor is 0, a factor or the constant is beyond 4,000,000,000,000,000 either way, or there are
+    /// more than 10,000 factors. It takes no memory.
+    pub fn new(factors: List<(u32, i64)>, constant: i64) -> Option<Lin>
+        ensures { SomeIff result (IsProper factors constant) (record { factors = factors; constant = constant }) }
+    {
+        if factors.len() <= FACTORS
+            && are_rising(factors.as_slice())
+            && constant.unsigned_abs() <= LIMIT
+        {
+            Some(Lin { factors, constant })
+        } else {
+            None
+        }
+    }
+
+    /// The factors, each with its unknown. The unknowns rise strictly.
+    pub fn factors(&self) -> &[(u32, i64)]
+        ensures value { result.now ≡ self.now.factors }
+        ensures proper { IsProper self.now.factors self.now.constant }
+    {
+        self.factors.as_slice()
+    }
+
+    /// The constant.
+    pub fn constant(&self) -> i64
+        ensures value { result ≡ self.now.constant }
+        ensures small { IsSmall self.now.constant }
+    {
+        self.constant
+    }
+
+    /// Whether each unknown of the form is below this number.
+    pub fn is_over(&self, count: usize) -> bool
+        ensures { IsTrue result ↔ HasUnknowns count self.now.factors }
+    {
+        self.factors
+            .as_slice()
+            .iter()
+            .all(|factor| (factor.0 as usize) < count)
+    }
+
+    /// Whether the constant is at most 3,000,000,000,000,000 either way.
+    pub fn is_moderate(&self) -> bool
+        ensures { result ≡ nat_le (unsigned_abs self.now.constant) 3000000000000000 }
+    {
+        self.constant.unsigned_abs() <= 3_000_000_000_000_000
+    }
+
+    /// The form with a proper list of factors and a proper constant.
+    pub(crate) fn of_proper(factors: List<(u32, i64)>, constant: i64) -> Lin
+        requires { IsProper factors constant }
+        ensures { result ≡ record { factors = factors; constant = constant } }
+    {
+        Lin { factors, constant }
+    }
+
+    /// The value of the form at a point.
+    pub(crate) fn value(&self, values: &[i64]) -> i128
+        requires over { HasUnknowns (length values.now) self.now.factors }
+        requires small { All IsSmall values.now }
+        ensures { result ≡ form_at (values_at values.now) self.now }
+    {
+        whole(sum_of(self.factors(), values), self.constant())
+    }
+
+    /// What an area fixes the form's atom to: Yes where no value of the form is positive, No where each is,
+    /// by the sum of the bounds.
+    pub(crate) fn fixed(&self, spans: &[Span]) -> Three
+        requires { HasUnknowns (length spans.now) self.now.factors }
+        ensures { result ≡ fixed_form spans.now (Some self.now) }
+    {
+        if whole(most_of(self.factors(), spans), self.constant()) <= 0 {
+            Three::Yes
+        } else if whole(least_of(self.factors(), spans), self.constant()) > 0 {
+            Three::No
+        } else {
+            Three::Maybe
+        }
+    }
+}

@@ -1,0 +1,5 @@
+mod evaluating;
+mod fixtures;
+mod judging;
+mod settling;
+mod sums;
