@@ -1,2 +1,2 @@
 pub mod NarrowingLemmas
-pub mod CircleLemmas
+pub mod CycleLemmas

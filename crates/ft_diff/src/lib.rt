@@ -1,7 +1,7 @@
 //! Whole solutions of differences of two unknowns within spans.
 #![tactic(auto)]
 
-mod circle;
+mod cycle;
 mod diff;
 mod narrowing;
 mod room;

@@ -50,8 +50,9 @@ fn cut(span: Span, bound: i64) -> Option<Span>
     Span::new(span.lo(), bound)
 }
 
-// An unknown is at most this bound.
-fn lower(spans: &mut [Span], unknown: u32, bound: i64) -> Step
+// An unknown is at most this bound, by the line at this place.
+fn lower(spans: &mut [Span], lowered_by: &mut [usize], unknown: u32, bound: i64, at: usize) -> Step
+    requires places { length lowered_by.old ≡ length spans.old }
     requires within { unknown < length spans.old }
     requires high { InArea spans.old (highs spans.old) }
     ensures outcome { HasOutcome (λ x. x unknown ≤ℤ bound) spans.old spans.new result }
@@ -64,14 +65,16 @@ fn lower(spans: &mut [Span], unknown: u32, bound: i64) -> Step
     match cut(span, bound) {
         Some(part) => {
             spans[unknown as usize] = part;
+            lowered_by[unknown as usize] = at;
             Step::Lowered(unknown)
         }
         None => Step::Barred,
     }
 }
 
-// One line.
-fn narrow(spans: &mut [Span], line: Diff) -> Step
+// The line at this place.
+fn narrow(spans: &mut [Span], lowered_by: &mut [usize], line: Diff, at: usize) -> Step
+    requires places { length lowered_by.old ≡ length spans.old }
     requires over { IsOver (length spans.old) line }
     requires high { InArea spans.old (highs spans.old) }
     ensures outcome { HasOutcome (λ x. Meets x line) spans.old spans.new result }
@@ -79,12 +82,13 @@ fn narrow(spans: &mut [Span], line: Diff) -> Step
 {
     let bound = reach(highest(spans, line.y), line.c);
     match line.x {
-        Some(unknown) => lower(spans, unknown, bound),
+        Some(unknown) => lower(spans, lowered_by, unknown, bound, at),
         None if bound < 0 => Step::Barred,
         None => Step::Met,
     }
 }
 
+// What is known after one more line.
 fn after(step: Step, one: Step) -> Step
     ensures { result ≡ after step one }
 {
@@ -103,20 +107,9 @@ fn is_barred(step: Step) -> bool
     }
 }
 
-// Which line lowered an unknown last.
-fn keep(from: &mut [usize], one: Step, at: usize)
-    ensures { length from.new ≡ length from.old }
-{
-    if let Step::Lowered(unknown) = one {
-        let unknown = unknown as usize;
-        if unknown < from.len() {
-            from[unknown] = at;
-        }
-    }
-}
-
-/// Each line once, in turn. `from` keeps for each unknown the place of the line that lowered it last.
-pub fn round(list: &[Diff], spans: &mut [Span], from: &mut [usize]) -> Step
+/// Each line once, in turn. `lowered_by` keeps for each unknown the place of the line that lowered it last.
+pub fn round(list: &[Diff], spans: &mut [Span], lowered_by: &mut [usize]) -> Step
+    requires places { length lowered_by.old ≡ length spans.old }
     requires over { All (IsOver (length spans.old)) list.now }
     requires high { InArea spans.old (highs spans.old) }
     ensures outcome { HasOutcome (λ x. All (Meets x) list.now) spans.old spans.new result }
@@ -124,8 +117,7 @@ pub fn round(list: &[Diff], spans: &mut [Span], from: &mut [usize]) -> Step
 {
     let mut step = Step::Met;
     'lines: for (at, line) in list.iter().enumerate() {
-        let one = narrow(spans, *line);
-        keep(from, one, at);
+        let one = narrow(spans, lowered_by, *line, at);
         step = after(step, one);
         if is_barred(step) {
             return Step::Barred;

@@ -8,7 +8,7 @@ use std::marker::Model;
 #[derive(Debug, Drop)]
 pub struct DiffRoom {
     pub(crate) spans: Vec<Span>,
-    pub(crate) from: Vec<usize>,
+    pub(crate) lowered_by: Vec<usize>,
 }
 
 impl Model for DiffRoom {
@@ -18,7 +18,7 @@ impl Model for DiffRoom {
 
     ghost view = { λ room. map (λ s. s.1) room.spans.items };
 
-    ghost invariant = { λ room. length room.from.items ≡ length room.spans.items };
+    ghost invariant = { λ room. length room.lowered_by.items ≡ length room.spans.items };
 }
 
 impl DiffRoom {
@@ -31,12 +31,12 @@ impl DiffRoom {
             unreachable!();
         };
         let mut spans = Vec::new(alloc);
-        let mut from = Vec::new(alloc);
+        let mut lowered_by = Vec::new(alloc);
         for _unknown in 0..unknowns {
             spans.push(zero)?;
-            from.push(0)?;
+            lowered_by.push(0)?;
         }
-        Ok(DiffRoom { spans, from })
+        Ok(DiffRoom { spans, lowered_by })
     }
 
     /// The number of an unknown in the solution that was found last.

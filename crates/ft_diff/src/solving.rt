@@ -4,7 +4,7 @@ ghost use Rattle.ft_linear.specs.Form.{InArea, values_at};
 ghost use Rattle.ft_diff.specs.Differences.{IsOver, IsSolution, IsUnder, HasUnknown};
 ghost use Rattle.ft_diff.specs.Narrowing.{highs};
 
-use crate::circle::{far_back, is_bar};
+use crate::cycle::{far_back, is_negative_cycle};
 use crate::diff::Diff;
 use crate::narrowing::{Step, round};
 use crate::room::DiffRoom;
@@ -21,34 +21,34 @@ fn put(spans: &mut [Span], at: usize, span: Span)
 }
 
 // The spans of the area, none of whose unknowns was lowered.
-fn begin(area: &[Span], spans: &mut [Span], from: &mut [usize], none: usize)
+fn begin(area: &[Span], spans: &mut [Span], lowered_by: &mut [usize], none: usize)
     requires spans { length spans.old ≡ length area.now }
-    requires from { length from.old ≡ length area.now }
+    requires places { length lowered_by.old ≡ length area.now }
     ensures same { spans.new ≡ area.now }
     ensures high { InArea area.now (highs area.now) }
 {
     'spans: for (at, span) in area.iter().enumerate() {
         put(spans, at, *span);
-        from[at] = none;
+        lowered_by[at] = none;
     }
 }
 
 // Lowers the greatest numbers in rounds until they meet all lines or no solution is left.
-fn solve(list: &[Diff], area: &[Span], spans: &mut [Span], from: &mut [usize]) -> bool
+fn solve(list: &[Diff], area: &[Span], spans: &mut [Span], lowered_by: &mut [usize]) -> bool
     requires over { All (IsOver (length area.now)) list.now }
     requires spans { length spans.old ≡ length area.now }
-    requires from { length from.old ≡ length area.now }
+    requires places { length lowered_by.old ≡ length area.now }
     ensures solved { IsTrue result → IsSolution list.now area.now (highs spans.new) }
     ensures greatest { IsTrue result → (x : ℕ → ℤ) → IsSolution list.now area.now x → IsUnder (length area.now) x (highs spans.new) }
     ensures none { IsFalse result → (x : ℕ → ℤ) → IsSolution list.now area.now x → ⊥ }
 {
-    begin(area, spans, from, list.len());
+    begin(area, spans, lowered_by, list.len());
     'rounds: loop {
-        match round(list, spans, from) {
+        match round(list, spans, lowered_by) {
             Step::Met => return true,
             Step::Barred => return false,
             Step::Lowered(unknown) => {
-                if is_bar(list, from, far_back(list, from, unknown)) {
+                if is_negative_cycle(list, lowered_by, far_back(list, lowered_by, unknown)) {
                     return false;
                 }
             }
@@ -57,16 +57,16 @@ fn solve(list: &[Diff], area: &[Span], spans: &mut [Span], from: &mut [usize]) -
 }
 
 // The same in the places of the area's unknowns, which come first.
-fn solve_within(list: &[Diff], area: &[Span], spans: &mut [Span], from: &mut [usize]) -> bool
+fn solve_within(list: &[Diff], area: &[Span], spans: &mut [Span], lowered_by: &mut [usize]) -> bool
     requires over { All (IsOver (length area.now)) list.now }
     requires spans { length area.now ≤ length spans.old }
-    requires from { length from.old ≡ length spans.old }
+    requires places { length lowered_by.old ≡ length spans.old }
     ensures solved { IsTrue result → IsSolution list.now area.now (highs spans.new) }
     ensures greatest { IsTrue result → (x : ℕ → ℤ) → IsSolution list.now area.now x → IsUnder (length area.now) x (highs spans.new) }
     ensures none { IsFalse result → (x : ℕ → ℤ) → IsSolution list.now area.now x → ⊥ }
 {
     let count = area.len();
-    solve(list, area, &mut spans[..count], &mut from[..count])
+    solve(list, area, &mut spans[..count], &mut lowered_by[..count])
 }
 
 /// Whether some whole numbers, one of the span of each unknown, meet all lines. Where it is true `room` has the
@@ -84,7 +84,12 @@ pub fn differences(list: &[Diff], area: &Area, room: &mut DiffRoom) -> bool
     ensures none { IsFalse result → (x : ℕ → ℤ) → IsSolution list.now area.now.spans x → ⊥ }
     ensures room { length room.new ≡ length room.old }
 {
-    solve_within(list, area.spans.as_slice(), &mut room.spans, &mut room.from)
+    solve_within(
+        list,
+        area.spans.as_slice(),
+        &mut room.spans,
+        &mut room.lowered_by,
+    )
 }
 
 #[cfg(test)]
@@ -206,7 +211,7 @@ mod tests {
                 span: (0, 9),
                 greatest: None,
             },
-            // circles of sum 0 and of sum -1
+            // cycles of sum 0 and of sum -1
             Case {
                 lines: &[(X, Y, -3), (Y, X, 3)],
                 span: (0, 9),
@@ -217,7 +222,7 @@ mod tests {
                 span: (-FAR, FAR),
                 greatest: None,
             },
-            // one that hangs off a circle
+            // one that hangs off a cycle
             Case {
                 lines: &[(W, X, 0), (X, Y, 0), (Y, X, -1)],
                 span: (-FAR, FAR),

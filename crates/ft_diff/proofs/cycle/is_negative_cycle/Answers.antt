@@ -1,9 +1,9 @@
 use Rattle.std.proofs.Common.{rules, arith, ◌≡◌, ◌+ℤ◌}
 use Rattle.std.specs.Int.{w128}
 use Rattle.std.proofs.lemmas.Int.{ints, to_z-of_z}
-use Rattle.ft_diff.proofs.CircleLemmas.{further, no-way}
+use Rattle.ft_diff.proofs.CycleLemmas.{further, no-way}
 use mir.Val.{SFits, to_z}
-use Rattle.ft_diff.proofs.circle.is_bar.Goals as goal
+use Rattle.ft_diff.proofs.cycle.is_negative_cycle.Goals as goal
 
 pub loop-turn-preserved : goal.loop-turn-preserved
 loop-turn-preserved c =

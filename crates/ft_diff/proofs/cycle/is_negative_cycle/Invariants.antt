@@ -1,7 +1,7 @@
 use Rattle.std.proofs.Common.{◌≤◌, ◌*◌, ℕ, ℤ, ◌+ℤ◌, ◌≤ℤ◌, All}
 use Rattle.std.specs.Prelude.{unsigned_abs}
 use Rattle.ft_diff.specs.Differences.{Meets}
-use Rattle.ft_diff.proofs.circle.is_bar.Given as goal
+use Rattle.ft_diff.proofs.cycle.is_negative_cycle.Given as goal
 
 -- every solution keeps the first number within this total of the one that is reached
 abbrev pub invariant-loop-turn : goal.invariant-loop-turn
