@@ -22,8 +22,8 @@ impl Model for DiffRoom {
 }
 
 impl DiffRoom {
-    /// Room for areas of at most this many unknowns, and lists of at most `count` lines. A line needs no memory of
-    /// its own.
+    /// Room for areas of at most this many unknowns. Lines need no memory of their own, so a list of more than
+    /// `count` lines is solved too.
     pub fn open(alloc: Global, unknowns: u32, count: usize) -> Result<DiffRoom, NoMemory>
         ensures { IfOk result (λ room. length room ≡ unknowns) }
     {

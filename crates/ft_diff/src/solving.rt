@@ -1,4 +1,4 @@
-ghost use Rattle.std.specs.Prelude.{◌≡◌, ◌≤◌, ◌<◌, ℕ, ℤ, length, unsigned_abs, All, slice_set, IsTrue, IsFalse};
+ghost use Rattle.std.specs.Prelude.{◌≡◌, ◌≤◌, ◌<◌, ℕ, ℤ, length, All, slice_set, IsTrue, IsFalse};
 ghost use Rattle.ft_base.specs.Interval.{IsBounded};
 ghost use Rattle.ft_linear.specs.Form.{InArea, values_at};
 ghost use Rattle.ft_diff.specs.Differences.{IsOver, IsSolution, IsUnder, HasUnknown};
@@ -39,7 +39,8 @@ fn solve(list: &[Diff], area: &[Span], spans: &mut [Span], lowered_by: &mut [usi
     requires spans { length spans.old ≡ length area.now }
     requires places { length lowered_by.old ≡ length area.now }
     ensures solved { IsTrue result → IsSolution list.now area.now (highs spans.new) }
-    ensures greatest { IsTrue result → (x : ℕ → ℤ) → IsSolution list.now area.now x → IsUnder (length area.now) x (highs spans.new) }
+    ensures greatest { IsTrue result → (x : ℕ → ℤ) → IsSolution list.now area.now x
+        → IsUnder (length area.now) x (highs spans.new) }
     ensures none { IsFalse result → (x : ℕ → ℤ) → IsSolution list.now area.now x → ⊥ }
 {
     begin(area, spans, lowered_by, list.len());
@@ -62,7 +63,8 @@ fn solve_within(list: &[Diff], area: &[Span], spans: &mut [Span], lowered_by: &m
     requires spans { length area.now ≤ length spans.old }
     requires places { length lowered_by.old ≡ length spans.old }
     ensures solved { IsTrue result → IsSolution list.now area.now (highs spans.new) }
-    ensures greatest { IsTrue result → (x : ℕ → ℤ) → IsSolution list.now area.now x → IsUnder (length area.now) x (highs spans.new) }
+    ensures greatest { IsTrue result → (x : ℕ → ℤ) → IsSolution list.now area.now x
+        → IsUnder (length area.now) x (highs spans.new) }
     ensures none { IsFalse result → (x : ℕ → ℤ) → IsSolution list.now area.now x → ⊥ }
 {
     let count = area.len();
