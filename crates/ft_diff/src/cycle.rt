@@ -6,7 +6,7 @@
 // greater than the number of these unknowns it runs into a cycle. Each unknown on a cycle was lowered by the next
 // one, so its sum is below 0. Hence there is at most one round more than there are unknowns that stand first in lines.
 
-ghost use Rattle.std.specs.Prelude.{◌≡◌, ◌≤◌, ◌<◌, ◌+◌, ◌*◌, ◌+ℤ◌, ℕ, ℤ, List, length, unsigned_abs, All, Contains, IsTrue, IfSome, Some};
+ghost use Rattle.std.specs.Prelude.{◌≡◌, ◌≤◌, ◌+◌, ◌*◌, ◌+ℤ◌, ℕ, ℤ, unsigned_abs, All, Contains, IsTrue, IfSome, Some};
 ghost use Rattle.ft_diff.specs.Differences.{Meets};
 
 use crate::diff::Diff;
