@@ -1,0 +1,2 @@
+pub mod NarrowingLemmas
+pub mod CycleLemmas
