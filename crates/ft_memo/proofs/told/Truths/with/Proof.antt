@@ -1,0 +1,41 @@
+-- The list with one more item is chosen.
+use Rattle.std.proofs.Common.{[], ◌∷◌, ◌++◌, refl}
+use mir.Syntax.{named}
+use mir.Val.{Val, vptr, vstruct, vnil}
+use contract.Running.{tables}
+use types.Kit.{‵, raw, ◌⊛◌, ◌$◌, ◌∵◌, !, qed, move, keep, split, suffices, done}
+use types.Part.{agg}
+use types.Run.{no_more, returns, enter}
+use types.ByLocal.{alloc_all, pass_all, free_all, look_at, sets}
+use denote.Builtin.{bool}
+use denote.Exit.{yes}
+use denote.RattleType.{owns}
+use denote.Ref.{shr_vals, shr_Tells}
+use denote.Shadow.{pure_i}
+use denote.Signature.{plain, types_at}
+use denote.Triple.Entry.{alive}
+use denote.Triple.Walked.{says, Stays, stay_none_ref, Goes-none_ref, walk_of, ends_at}
+use Rattle.std.proofs.raw_atomic.Walks.{proved}
+use Rattle.ft_memo.specs.contracts.told.Truths as told
+use Rattle.ft_memo.specs.contracts.told.Truths.with as f
+use Rattle.ft_memo.proofs.told.Truths.with.Statement.{statement}
+use Rattle.ft_memo.proofs.told.Truths.with.Code as code
+
+abbrev stayed : Stays f.ended.signature.params f.ended.kept
+stayed = (stay_none_ref (0 ∷ []) tt (plain (λ _. told.the_row)) yes, (stay_none_ref (1 ∷ []) tt (plain (λ _. bool)) yes, tt))
+
+pub with_spec : {M : Type 1} → statement M
+with_spec 𝓤 𝓛 𝓜 𝓡 wired =
+    let c = f.clauses 𝓛 𝓜.mem 𝓡.returns in let W = walk_of 𝓛 f.ended stayed c in let 𝓣 = tables 𝓤 𝓛.H 𝓜 𝓡 𝓡.env in
+    proved 𝓛 f.ended stayed c 𝓜 𝓡 (Goes-none_ref 𝓛 2 (0 ∷ []) tt (plain (λ _. told.the_row)) yes, (Goes-none_ref 𝓛 2 (1 ∷ []) tt (plain (λ _. bool)) yes, tt))
+    f.Key.name code.function (code.unfolded 𝓤 𝓛.H 𝓜 𝓡 wired) (λ κs. (shr_vals, (shr_vals, tt)))
+    (λ κs. (shr_Tells (named 0) κs.0 told.the_row, (shr_Tells (named 1) κs.1.0 bool, tt))) (λ κs qs bounds a g are.
+    let before : Val = vptr a.0.ref_ptr.0 a.0.ref_ptr.1 in let item : Val = vptr a.1.0.ref_ptr.0 a.1.0.ref_ptr.1 in
+    let y : W.Ghost = ((κs, qs, bounds, a, (before ∷ [], (item ∷ [], tt))), g) in
+    let made : told.the_row.Denot = record { items = a.0.now.items ++ a.1.0.now ∷ [] } in
+    qed 𝓛 ((raw (alive 𝓛 f.signature κs qs) ⊛ ‵ (owns (types_at f.signature.params κs) a y.0.4)) ∷ raw ((c κs a).requires g) ∷ []) ∵ keep ! (0 ∷ []) $ split ! $
+    enter ! 𝓣.C 𝓣.Λ code.function (before ∷ item ∷ []) _ $ alloc_all ! (λ l. pass_all ! refl ((tt, tt), ((tt, tt), tt)) $ sets ! (agg ! (no_more !)) refl (tt, tt) $
+    returns ! (look_at ! 0 refl) $ free_all ! refl $
+    suffices ! _ (ends_at 𝓛 f.ended stayed c y (vstruct vnil) made (tt, (tt, tt)) (tt, (tt, tt))) $
+    says ! refl $ pure_i ! (told.the_row.own_val made (vstruct vnil ∷ [])) ((λ vss. (tt, tt)), tt) ((tt, (refl, tt)), tt) $
+    move ! (1 ∷ 2 ∷ 0 ∷ []) $ done !))
