@@ -1,7 +1,7 @@
 ghost use Rattle.std.specs.Prelude.{◌≡◌, ◌++◌, [], ◌∷◌, ◌<ℤ◌, ◌||◌, int_le, if◌then◌else◌};
 ghost use Rattle.ft_memo.specs.Band.{hyst_after};
 
-use crate::told::Numbers;
+use crate::told::Told;
 use std::marker::Model;
 
 /// Which of two bounds a number met last. Contracts see the bounds, the start and the numbers so far, one a scan.
@@ -11,7 +11,7 @@ pub struct Band {
     hi: i64,
     start: bool,
     bit: bool,
-    past: Numbers,
+    past: Told<i64>,
 }
 
 impl Model for Band {
@@ -52,7 +52,7 @@ impl Band {
             hi,
             start,
             bit: start,
-            past: Numbers::new(),
+            past: Told::new(),
         }
     }
 

@@ -2,7 +2,7 @@ ghost use Rattle.std.specs.Prelude.{◌≡◌, ◌++◌, [], ◌∷◌, ◌≤�
 ghost use Rattle.std.specs.Int.{int_min};
 ghost use Rattle.ft_memo.specs.Timer.{IsHold, IsPeriod, held_after, age_after};
 
-use crate::told::Truths;
+use crate::told::Told;
 use std::marker::Model;
 
 /// How long a condition has been true, up to a hold. Contracts see the hold, the period and the truths so far, one a scan.
@@ -11,7 +11,7 @@ pub struct Timer {
     hold: i64,
     period: i64,
     age: i64,
-    past: Truths,
+    past: Told<bool>,
 }
 
 impl Model for Timer {
@@ -54,7 +54,7 @@ impl Timer {
             hold,
             period,
             age: -1,
-            past: Truths::new(),
+            past: Told::new(),
         }
     }
 

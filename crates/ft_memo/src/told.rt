@@ -1,57 +1,32 @@
-//! Lists that only clauses read. They have no bytes, and their calls do nothing when the program runs.
-ghost use Rattle.std.specs.Prelude.{◌≡◌, Bool, ℤ, List, [], ◌∷◌, ◌++◌};
+//! A list that only clauses read. It has no bytes, and its calls do nothing when the program runs.
+ghost use Rattle.std.specs.Prelude.{◌≡◌, List, [], ◌∷◌, ◌++◌};
 ghost use Rattle.std.specs.Borrow.{ftrue};
 
-use std::marker::Model;
+use std::marker::{Model, PhantomData};
 
-/// The truths that a timer was given.
+/// What a memory was told, one item a scan.
 #[derive(Drop)]
-pub(crate) struct Truths {
-    pub ghost items: { List Bool },
+pub(crate) struct Told<T> {
+    of: PhantomData<T>,
+    pub ghost items: { List T },
 }
 
-impl Model for Truths {
+impl<T> Model for Told<T> {
     ghost also_owns = { λ _. ftrue };
 }
 
-impl Truths {
-    /// No truth.
-    pub(crate) fn new() -> Truths
+impl<T> Told<T> {
+    /// No item.
+    pub(crate) fn new() -> Told<T>
         ensures { result.items ≡ [] }
     {
-        Truths {}
+        Told { of: PhantomData }
     }
 
     /// These and one more at the end.
-    pub(crate) fn with(&self, _now: &bool) -> Truths
+    pub(crate) fn with(&self, _now: &T) -> Told<T>
         ensures { result.items ≡ self.now.items ++ _now.now ∷ [] }
     {
-        Truths {}
-    }
-}
-
-/// The numbers that a band was given.
-#[derive(Drop)]
-pub(crate) struct Numbers {
-    pub ghost items: { List ℤ },
-}
-
-impl Model for Numbers {
-    ghost also_owns = { λ _. ftrue };
-}
-
-impl Numbers {
-    /// No number.
-    pub(crate) fn new() -> Numbers
-        ensures { result.items ≡ [] }
-    {
-        Numbers {}
-    }
-
-    /// These and one more at the end.
-    pub(crate) fn with(&self, _now: &i64) -> Numbers
-        ensures { result.items ≡ self.now.items ++ _now.now ∷ [] }
-    {
-        Numbers {}
+        Told { of: PhantomData }
     }
 }
