@@ -1,4 +1,4 @@
-ghost use Rattle.std.specs.Prelude.{◌≡◌, ◌⊎◌, Some, List, ℕ, map, string_bytes};
+ghost use Rattle.std.specs.Prelude.{◌≡◌, ◌⊎◌, Some, List, ℕ, drop, map, string_bytes};
 ghost use Rattle.std.specs.Option.{option_copied};
 ghost use Rattle.std.specs.List.{Contains};
 ghost use Rattle.ft_cli.specs.Report.{text_of};
@@ -31,7 +31,8 @@ fn file_of(words: &[String]) -> Option<&str>
 /// The words after the first. Where the words are a form, the names of its files are among these.
 #[tactic(auto, using(crate::proofs::TopLemmas::known))]
 pub fn file_words(words: &[String]) -> &[String]
-    ensures { NamesKnown (map string_bytes words.now) (map string_bytes result.now) }
+    ensures rest { result.now ≡ drop 1 words.now }
+    ensures names { NamesKnown (map string_bytes words.now) (map string_bytes result.now) }
 {
     match words {
         [_, files @ ..] => files,
