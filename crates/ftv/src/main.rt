@@ -28,3 +28,24 @@ fn status(rt: HostRuntime) -> Result<u8, NoMemory> {
 fn main(rt: HostRuntime) -> ExitCode {
     ExitCode::from(status(rt).unwrap_or(7))
 }
+
+#[cfg(test)]
+mod tests {
+    use super::*;
+    use ft_base::List;
+    use ft_port::{MemShelf, MemSink, Sink};
+    use std::test::Fail;
+
+    /// A sink whose second write fails takes the whole report, and only then fails.
+    #[test]
+    fn writes_once(rt: HostRuntime) -> Result<(), Fail> {
+        let alloc = rt.alloc();
+        let mut shelf = MemShelf::new(alloc, List::new(alloc), List::new(alloc))?;
+        let mut sink = MemSink::open(alloc, 100, List::copy_of(alloc, &[(2, 0)])?)?;
+        let ended = run(alloc, &[], &mut shelf, &mut sink);
+        assert_eq!(rt; ended.status, 4);
+        assert_eq!(rt; sink.taken(), b"usage: ftv verify F\n".as_slice());
+        assert!(rt; sink.write(b"more").is_err());
+        Ok(())
+    }
+}
