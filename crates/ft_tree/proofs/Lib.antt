@@ -1,3 +1,9 @@
 pub mod ExprLemmas
+pub mod ExprParts
 pub mod LayoutLemmas
+pub mod LineLemmas
+pub mod MadeLemmas
+pub mod PieceLemmas
+pub mod SoundLemmas
+pub mod TreeLemmas
 pub mod WritingLemmas

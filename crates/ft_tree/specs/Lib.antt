@@ -4,4 +4,5 @@ pub mod Level
 pub mod Limits
 pub mod Line
 pub mod Lines
+pub mod Tokens
 pub mod Writing

@@ -6,6 +6,7 @@ mod expr;
 mod expression;
 mod item;
 mod items;
+mod law;
 mod level;
 mod lines;
 mod parts;
@@ -18,5 +19,6 @@ pub use expr::{Expr, Op};
 pub use item::{
     Bound, FactItem, Item, Kind, NatWord, Number, Plain, Row, SectionWord, VRow, VarWord, Word,
 };
+pub use law::canonical_tokens;
 pub use level::Level;
 pub use tree::Tree;
