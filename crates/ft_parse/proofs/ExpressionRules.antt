@@ -1,0 +1,316 @@
+-- Each part of the grammar of expressions with the parser that reads it.
+use Rattle.std.proofs.Common.{◌≡◌, ◌∙◌, ℕ, Bool, true, false, List, [], ◌∷◌, ◌++◌, codes, Option, Some, None, refl}
+use Rattle.std.proofs.lemmas.List.Folds.{list_any-append}
+use Rattle.std.proofs.Math.Bool.{or-true}
+use Rattle.ft_base.specs.declared.place.Place.{Place}
+use Rattle.ft_lex.specs.declared.token.TokenKind.TheVariants as kind
+use Rattle.ft_tree.specs.declared.expr.Op.{Op}
+use Rattle.ft_tree.specs.declared.expr.Op.TheVariants.{Or, And, Eq, Ne, Lt, Le, Gt, Ge, Add, Sub, Mul, Div}
+use Rattle.ft_tree.specs.declared.expr.Expr.{Expr}
+use Rattle.ft_tree.specs.declared.expr.Expr.TheVariants as expr
+use Rattle.ft_parse.specs.Lexeme.{Lexeme, as_name, as_sign, as_word}
+use Rattle.ft_parse.specs.Language.{Language, Passes, either, nothing, repeated, token, ◌▷◌}
+use Rattle.ft_parse.specs.Limit.{opening, within}
+use Rattle.ft_parse.specs.Expressions.{Nest, as_and, as_or, as_product, as_relation, as_simple, as_sum, atom, chain, comparison, conjunction}
+use Rattle.ft_parse.specs.Expressions.{disjunction, group, history, negated, negation, operator, prefixed, product, right_of}
+use Rattle.ft_parse.specs.Expressions.{signed, sum, two, unary}
+use Rattle.ft_parse.specs.Reading.{Parser, can, either_by, give, is_some, many, read_token, ◌▶◌}
+use Rattle.ft_parse.specs.ReadExpressions.{atom_by, chain_by, comparison_by, conjunction_by, disjunction_by, group_by}
+use Rattle.ft_parse.specs.ReadExpressions.{history_by, negation_by, prefixed_by, product_by, right_by, sum_by, unary_by}
+use Rattle.ft_parse.specs.declared.parts.Entry.{Entry}
+use Rattle.ft_parse.specs.declared.parts.Operator.{Operator}
+use Rattle.ft_parse.proofs.Forms.{Form, all_differ, any, apart, apart-under, Looks, itself-bytes, looks-map, looks-name, looks-number, looks-or}
+use Rattle.ft_parse.proofs.Forms.{looks-sign, looks-word, sign, some_name, some_number, under-both, word}
+use Rattle.ft_parse.proofs.Many.{Heads}
+use Rattle.ft_parse.proofs.Rule.{Rule, next, heads-either, heads-then, heads-token, heads-weaker, rule-either, rule-give, rule-many, rule-next, rule-then, rule-token, rule-weaker}
+use Rattle.ft_parse.proofs.Whole.{Apart, Under, calms-by-heads, calms-either, calms-many, calms-nothing, never}
+
+-- some place, for the texts that show that a part has one
+abbrev pub here : Place
+here = record { line = 1; column = 1 }
+
+abbrev pub some_word : List ℕ → Lexeme
+some_word w = record { kind = kind.Word; text = w; place = here }
+
+abbrev pub some_sign : List ℕ → Lexeme
+some_sign w = record { kind = kind.Sign; text = w; place = here }
+
+abbrev pub some_name_token : Lexeme
+some_name_token = record { kind = kind.Name; text = codes "x"; place = here }
+
+abbrev pub some_number_token : Lexeme
+some_number_token = record { kind = kind.Number; text = codes "0"; place = here }
+
+pub under-never : (big : Lexeme → Bool) → Under never big
+under-never big l e = cc e
+
+pub under-same : (test : Lexeme → Bool) → Under test test
+under-same test l e = e
+
+pub under-left : (xs ys : List Form) → Under (any xs) (any (xs ++ ys))
+under-left xs ys l e = list_any-append _ xs ys ∙ rw e refl
+
+pub under-right : (xs ys : List Form) → Under (any ys) (any (xs ++ ys))
+under-right xs ys l e = list_any-append _ xs ys ∙ rw e (or-true (any xs l))
+
+pub apart-first : (one big other : Lexeme → Bool) → Under one big → Apart big other → Apart one other
+apart-first one big other under d l e = d l (under l e)
+
+pub rule-done : {A : Type 0} (a : A) (more : Lexeme → Bool) → Rule (nothing a) (give a) more
+rule-done a more = rule-weaker (nothing a) (give a) never more (under-never more) (rule-give a)
+
+-- a part and what is made of it
+pub rule-map : {A B : Type 0} (L : Language A) (p : Parser A) (h : A → B) (more : Lexeme → Bool) → Rule L p more → Rule (L ▷ λ a. nothing (h a)) (p ▶ λ a. give (h a)) more
+rule-map L p h more r =
+    rule-then L (λ a. nothing (h a)) p (λ a. give (h a)) more more (λ a. calms-nothing (h a) more more (under-same more)) r (λ a. rule-done (h a) more)
+
+module _ (entry : Entry) (ops : Lexeme → Option Operator) (operand : Language Expr) (operand_by : Parser Expr) (own inner : List Form) (l : Lexeme) (o : Operator)
+    (reads : ops l ≡ Some o) (under : Under (can ops) (any own)) (differ : all_differ own inner ≡ true) where
+  pub rule-right : (left : Expr) → Rule operand operand_by (any inner) → Rule (right_of entry ops operand left) (right_by entry ops operand_by left) (any inner)
+  unfolding right_by
+  rule-right left r =
+      rule-next (token ops (within entry)) (λ o. operand ▷ λ right. nothing (two o left right)) (read_token ops (within entry)) (λ o. operand_by ▶ λ right. give (two o left right))
+      (any inner) (rule-token ops (within entry) l o reads) (λ o. rule-map operand operand_by (λ right. two o left right) (any inner) r)
+
+  pub heads-right : (left : Expr) → Heads (right_of entry ops operand left) (can ops)
+  heads-right left = heads-then (token ops (within entry)) (λ o. operand ▷ λ right. nothing (two o left right)) (can ops) (heads-token ops (within entry))
+
+  apart-ops : Apart (can ops) (any inner)
+  apart-ops = apart-first (can ops) (any own) (any inner) under (apart own inner differ)
+
+  pub rule-chain : Rule operand operand_by (any inner) → Rule (chain entry ops operand) (chain_by entry ops operand_by) (any (own ++ inner))
+  rule-chain r =
+      rule-then operand (repeated (right_of entry ops operand)) operand_by (many (can ops) (right_by entry ops operand_by)) (any inner) (any (own ++ inner))
+      (calms-many (right_of entry ops operand) (can ops) (right_by entry ops operand_by) (any inner) (any (own ++ inner)) (λ left s. (rule-right left r).told s) heads-right
+      apart-ops (under-right own inner) (under-both (can ops) (any own) (any (own ++ inner)) under (under-left own inner)))
+      r
+      (rule-many (right_of entry ops operand) (can ops) (right_by entry ops operand_by) (any inner) (any (own ++ inner)) heads-right apart-ops (under-right own inner)
+      (under-both (can ops) (any own) (any (own ++ inner)) under (under-left own inner)) (λ left. rule-right left r))
+
+-- which tokens operators are
+abbrev pub product_forms : List Form
+product_forms = sign (codes "*") ∷ word (codes "div") ∷ []
+
+abbrev pub sum_own : List Form
+sum_own = sign (codes "+") ∷ sign (codes "-") ∷ []
+
+abbrev pub sum_forms : List Form
+sum_forms = sum_own ++ product_forms
+
+abbrev pub relation_own : List Form
+relation_own = sign (codes "=") ∷ sign (codes "<>") ∷ sign (codes "<") ∷ sign (codes "<=") ∷ sign (codes ">") ∷ sign (codes ">=") ∷ []
+
+abbrev pub comparison_forms : List Form
+comparison_forms = relation_own ++ sum_forms
+
+abbrev pub and_forms : List Form
+and_forms = (word (codes "and") ∷ []) ++ comparison_forms
+
+abbrev pub or_forms : List Form
+or_forms = (word (codes "or") ∷ []) ++ and_forms
+
+looks-operator : {f : Lexeme → Option Place} {xs : List Form} (op : Op) → Looks f xs → Looks (λ l. operator op (f l)) xs
+looks-operator {f} {xs} op one = record { under = λ l e. by-value l (f l) refl e } where
+  by-value : (l : Lexeme) (o : Option Place) → f l ≡ o → is_some (operator op o) ≡ true → any xs l ≡ true
+  by-value l (Some place) p e = one.under l (rw p refl)
+  by-value l None p e = cc e
+
+pub looks-product : Looks as_product product_forms
+looks-product = looks-or (looks-operator Mul (looks-sign (codes "*"))) (looks-operator Div (looks-word (codes "div")))
+
+pub looks-sum : Looks as_sum sum_own
+looks-sum = looks-or (looks-operator Add (looks-sign (codes "+"))) (looks-operator Sub (looks-sign (codes "-")))
+
+pub looks-relation : Looks as_relation relation_own
+looks-relation = looks-or (looks-operator Eq (looks-sign (codes "="))) (looks-or (looks-operator Ne (looks-sign (codes "<>"))) (looks-or (looks-operator Lt (looks-sign (codes "<")))
+    (looks-or (looks-operator Le (looks-sign (codes "<="))) (looks-or (looks-operator Gt (looks-sign (codes ">"))) (looks-operator Ge (looks-sign (codes ">=")))))))
+
+pub looks-and : Looks as_and (word (codes "and") ∷ [])
+looks-and = looks-operator And (looks-word (codes "and"))
+
+pub looks-or-word : Looks as_or (word (codes "or") ∷ [])
+looks-or-word = looks-operator Or (looks-word (codes "or"))
+
+abbrev pub simple_forms : List Form
+simple_forms = some_number ∷ some_name ∷ word (codes "true") ∷ word (codes "false") ∷ []
+
+pub looks-simple : Looks as_simple simple_forms
+looks-simple =
+    looks-or (looks-map (λ n. expr.Num n.value n.place) looks-number) (looks-or (looks-map (λ w. expr.Name w.text w.place) looks-name)
+    (looks-or (looks-map (expr.Truth true) (looks-word (codes "true"))) (looks-map (expr.Truth false) (looks-word (codes "false")))))
+
+pub itself : (w : List ℕ) → as_word w (some_word w) ≡ Some here
+itself w = rw (itself-bytes w) refl
+
+-- `prev` or `age`
+pub rule-history : (entry : Entry) (room : ℕ) (w : List ℕ) (make : List ℕ → Place → Expr) → Rule (history entry room w make) (history_by entry room w make) never
+unfolding history_by
+rule-history entry room w make =
+    next (rule-token (as_word w) (within entry) (some_word w) here (itself w)) (λ place.
+    next (rule-token (as_sign (codes "(")) (opening entry room) (some_sign (codes "(")) here refl) (λ _.
+    next (rule-token as_name (within entry) some_name_token _ refl) (λ name.
+    next (rule-token (as_sign (codes ")")) (within entry) (some_sign (codes ")")) here refl) (λ _.
+    rule-give (make name.text place)))))
+
+-- a part that begins with a token of these forms
+pub heads-first : {A B : Type 0} (read : Lexeme → Option A) (passes : Passes) (M : A → Language B) (forms : List Form) → Looks read forms → Heads (token read passes ▷ M) (any forms)
+heads-first read passes M forms looks =
+    heads-weaker (token read passes ▷ M) (can read) (any forms) looks.under (heads-then (token read passes) M (can read) (heads-token read passes))
+
+pub heads-one : {A : Type 0} (read : Lexeme → Option A) (passes : Passes) (forms : List Form) → Looks read forms → Heads (token read passes) (any forms)
+heads-one read passes forms looks = heads-weaker (token read passes) (can read) (any forms) looks.under (heads-token read passes)
+
+pub heads-two : {A : Type 0} (L M : Language A) (xs ys : List Form) → Heads L (any xs) → Heads M (any ys) → Heads (either L M) (any (xs ++ ys))
+heads-two L M xs ys one other =
+    heads-either L M (any (xs ++ ys)) (heads-weaker L (any xs) (any (xs ++ ys)) (under-left xs ys) one) (heads-weaker M (any ys) (any (xs ++ ys)) (under-right xs ys) other)
+
+-- a choice by the first token: the second part begins with other tokens
+pub choose : {A B : Type 0} (L M : Language A) (read : Lexeme → Option B) (p q : Parser A) (after : Lexeme → Bool) (xs ys : List Form) → Looks read xs → Heads L (can read) → Heads M (any ys)
+    → all_differ ys xs ≡ true → Rule L p after → Rule M q after → Rule (either L M) (either_by (can read) p q) after
+choose L M read p q after xs ys looks heads others differ r t =
+    rule-either L M (can read) p q after heads
+    (calms-by-heads M (any ys) (can read) after others (apart-under (any ys) (can read) (any xs) (apart ys xs differ) looks.under)) r t
+
+abbrev pub age_forms : List Form
+age_forms = word (codes "age") ∷ sign (codes "(") ∷ []
+
+abbrev pub prev_forms : List Form
+prev_forms = word (codes "prev") ∷ age_forms
+
+abbrev pub atom_forms : List Form
+atom_forms = simple_forms ++ prev_forms
+
+abbrev pub unary_forms : List Form
+unary_forms = sign (codes "-") ∷ atom_forms
+
+abbrev pub negation_forms : List Form
+negation_forms = word (codes "not") ∷ unary_forms
+
+-- what the parts begin with
+module _ (entry : Entry) (inner : Nest → Language Expr) (room : ℕ) where
+  heads-group : Heads (group entry inner room) (any (sign (codes "(") ∷ []))
+  heads-group = heads-first (as_sign (codes "(")) (opening entry room) _ (sign (codes "(") ∷ []) (looks-sign (codes "("))
+
+  heads-history : (w : List ℕ) (make : List ℕ → Place → Expr) → Heads (history entry room w make) (any (word w ∷ []))
+  heads-history w make = heads-first (as_word w) (within entry) _ (word w ∷ []) (looks-word w)
+
+  from-history : (w : List ℕ) (make : List ℕ → Place → Expr) → Heads (history entry room w make) (can (as_word w))
+  from-history w make = heads-then (token (as_word w) (within entry)) _ (can (as_word w)) (heads-token (as_word w) (within entry))
+
+  heads-age : Heads (either (history entry room (codes "age") expr.Age) (group entry inner room)) (any age_forms)
+  heads-age = heads-two (history entry room (codes "age") expr.Age) (group entry inner room) (word (codes "age") ∷ []) (sign (codes "(") ∷ []) (heads-history (codes "age") expr.Age) heads-group
+
+  heads-prev : Heads (either (history entry room (codes "prev") expr.Prev) (either (history entry room (codes "age") expr.Age) (group entry inner room))) (any prev_forms)
+  heads-prev =
+      heads-two (history entry room (codes "prev") expr.Prev) (either (history entry room (codes "age") expr.Age) (group entry inner room)) (word (codes "prev") ∷ []) age_forms
+      (heads-history (codes "prev") expr.Prev) heads-age
+
+  heads-atom : Heads (atom entry inner room) (any atom_forms)
+  heads-atom =
+      heads-two (token as_simple (within entry)) (either (history entry room (codes "prev") expr.Prev) (either (history entry room (codes "age") expr.Age) (group entry inner room)))
+      simple_forms prev_forms (heads-one as_simple (within entry) simple_forms looks-simple) heads-prev
+
+  from-minus : Heads (prefixed entry room (as_sign (codes "-")) (inner signed) expr.Neg) (can (as_sign (codes "-")))
+  from-minus = heads-then (token (as_sign (codes "-")) (opening entry room)) _ (can (as_sign (codes "-"))) (heads-token (as_sign (codes "-")) (opening entry room))
+
+  heads-unary : Heads (unary entry inner room) (any unary_forms)
+  heads-unary =
+      heads-two (prefixed entry room (as_sign (codes "-")) (inner signed) expr.Neg) (atom entry inner room) (sign (codes "-") ∷ []) atom_forms
+      (heads-first (as_sign (codes "-")) (opening entry room) _ (sign (codes "-") ∷ []) (looks-sign (codes "-"))) heads-atom
+
+  heads-sum : Heads (sum entry inner room) (any unary_forms)
+  heads-sum = heads-then (product entry inner room) _ (any unary_forms) (heads-then (unary entry inner room) _ (any unary_forms) heads-unary)
+
+  heads-comparison : Heads (comparison entry inner room) (any unary_forms)
+  heads-comparison = heads-then (sum entry inner room) _ (any unary_forms) heads-sum
+
+  from-not : Heads (prefixed entry room (as_word (codes "not")) (inner negated) expr.Not) (can (as_word (codes "not")))
+  from-not = heads-then (token (as_word (codes "not")) (opening entry room)) _ (can (as_word (codes "not"))) (heads-token (as_word (codes "not")) (opening entry room))
+
+  heads-negation : Heads (negation entry inner room) (any negation_forms)
+  heads-negation =
+      heads-two (prefixed entry room (as_word (codes "not")) (inner negated) expr.Not) (comparison entry inner room) (word (codes "not") ∷ []) unary_forms
+      (heads-first (as_word (codes "not")) (opening entry room) _ (word (codes "not") ∷ []) (looks-word (codes "not"))) heads-comparison
+
+  -- every expression begins with one of these
+  pub heads-disjunction : Heads (disjunction entry inner room) (any negation_forms)
+  heads-disjunction =
+      heads-then (conjunction entry inner room) _ (any negation_forms) (heads-then (negation entry inner room) _ (any negation_forms) heads-negation)
+
+-- the parts of a layer, where those that open are read
+module _ (entry : Entry) (inner : Nest → Language Expr) (inner_by : Nest → Parser Expr) (room : ℕ)
+    (minus : Rule (prefixed entry room (as_sign (codes "-")) (inner signed) expr.Neg) (prefixed_by entry room (as_sign (codes "-")) (inner_by signed) expr.Neg) never)
+    (nots : Rule (prefixed entry room (as_word (codes "not")) (inner negated) expr.Not) (prefixed_by entry room (as_word (codes "not")) (inner_by negated) expr.Not) (any comparison_forms))
+    (groups : Rule (group entry inner room) (group_by entry inner_by room) never) where
+  rule-atom : Rule (atom entry inner room) (atom_by entry inner_by room) never
+  unfolding atom_by
+  rule-atom =
+      choose (token as_simple (within entry)) (either (history entry room (codes "prev") expr.Prev) (either (history entry room (codes "age") expr.Age) (group entry inner room)))
+      as_simple _ _ never simple_forms prev_forms looks-simple (heads-token as_simple (within entry)) (heads-prev entry inner room) refl (rule-token as_simple (within entry) some_number_token _ refl)
+      (choose (history entry room (codes "prev") expr.Prev) (either (history entry room (codes "age") expr.Age) (group entry inner room))
+      (as_word (codes "prev")) _ _ never (word (codes "prev") ∷ []) age_forms (looks-word (codes "prev")) (from-history entry inner room (codes "prev") expr.Prev) (heads-age entry inner room) refl
+      (rule-history entry room (codes "prev") expr.Prev)
+      (choose (history entry room (codes "age") expr.Age) (group entry inner room)
+      (as_word (codes "age")) _ _ never (word (codes "age") ∷ []) (sign (codes "(") ∷ []) (looks-word (codes "age")) (from-history entry inner room (codes "age") expr.Age) (heads-group entry inner room) refl
+      (rule-history entry room (codes "age") expr.Age) groups))
+
+  pub rule-unary : Rule (unary entry inner room) (unary_by entry inner_by room) never
+  unfolding unary_by
+  rule-unary =
+      choose (prefixed entry room (as_sign (codes "-")) (inner signed) expr.Neg) (atom entry inner room) (as_sign (codes "-")) _ _ never (sign (codes "-") ∷ []) atom_forms
+      (looks-sign (codes "-")) (from-minus entry inner room) (heads-atom entry inner room) refl minus rule-atom
+
+  rule-product : Rule (product entry inner room) (product_by entry inner_by room) (any product_forms)
+  unfolding product_by
+  rule-product = rule-chain entry as_product (unary entry inner room) (unary_by entry inner_by room) product_forms [] (some_sign (codes "*")) _ refl looks-product.under refl rule-unary
+
+  rule-sum : Rule (sum entry inner room) (sum_by entry inner_by room) (any sum_forms)
+  unfolding sum_by
+  rule-sum = rule-chain entry as_sum (product entry inner room) (product_by entry inner_by room) sum_own product_forms (some_sign (codes "+")) _ refl looks-sum.under refl rule-product
+
+  -- a comparison's second half, where there is one
+  abbrev half : Expr → Language Expr
+  half left = either (right_of entry as_relation (sum entry inner room) left) (nothing left)
+
+  rule-comparison : Rule (comparison entry inner room) (comparison_by entry inner_by room) (any comparison_forms)
+  unfolding comparison_by
+  rule-comparison =
+      rule-then (sum entry inner room) half (sum_by entry inner_by room) (λ left. either_by (can as_relation) (right_by entry as_relation (sum_by entry inner_by room) left) (give left))
+      (any sum_forms) (any comparison_forms)
+      (λ left. calms-either (right_of entry as_relation (sum entry inner room) left) (nothing left) (any sum_forms) (any comparison_forms)
+      (calms-by-heads (right_of entry as_relation (sum entry inner room) left) (can as_relation) (any sum_forms) (any comparison_forms) (goes-on left)
+      (apart-first (can as_relation) (any relation_own) (any sum_forms) looks-relation.under (apart relation_own sum_forms refl)))
+      (calms-nothing left (any sum_forms) (any comparison_forms) (under-right relation_own sum_forms)))
+      rule-sum
+      (λ left. rule-either (right_of entry as_relation (sum entry inner room) left) (nothing left) (can as_relation) (right_by entry as_relation (sum_by entry inner_by room) left) (give left)
+      (any comparison_forms) (goes-on left)
+      (calms-nothing left (can as_relation) (any comparison_forms)
+      (under-both (can as_relation) (any relation_own) (any comparison_forms) looks-relation.under (under-left relation_own sum_forms)))
+      (rule-weaker (right_of entry as_relation (sum entry inner room) left) (right_by entry as_relation (sum_by entry inner_by room) left) (any sum_forms) (any comparison_forms)
+      (under-right relation_own sum_forms) (right left))
+      (rule-done left (any comparison_forms))) where
+        goes-on : (left : Expr) → Heads (right_of entry as_relation (sum entry inner room) left) (can as_relation)
+        goes-on left =
+            heads-right entry as_relation (sum entry inner room) (sum_by entry inner_by room) relation_own sum_forms (some_sign (codes "=")) _ refl looks-relation.under refl left
+
+        right : (left : Expr) → Rule (right_of entry as_relation (sum entry inner room) left) (right_by entry as_relation (sum_by entry inner_by room) left) (any sum_forms)
+        right left =
+            rule-right entry as_relation (sum entry inner room) (sum_by entry inner_by room) relation_own sum_forms (some_sign (codes "=")) _ refl looks-relation.under refl left rule-sum
+
+  pub rule-negation : Rule (negation entry inner room) (negation_by entry inner_by room) (any comparison_forms)
+  unfolding negation_by
+  rule-negation =
+      choose (prefixed entry room (as_word (codes "not")) (inner negated) expr.Not) (comparison entry inner room) (as_word (codes "not")) _ _ (any comparison_forms)
+      (word (codes "not") ∷ []) unary_forms (looks-word (codes "not")) (from-not entry inner room) (heads-comparison entry inner room) refl nots rule-comparison
+
+  rule-conjunction : Rule (conjunction entry inner room) (conjunction_by entry inner_by room) (any and_forms)
+  unfolding conjunction_by
+  rule-conjunction =
+      rule-chain entry as_and (negation entry inner room) (negation_by entry inner_by room) (word (codes "and") ∷ []) comparison_forms (some_word (codes "and")) _ refl looks-and.under refl
+      rule-negation
+
+  pub rule-disjunction : Rule (disjunction entry inner room) (disjunction_by entry inner_by room) (any or_forms)
+  unfolding disjunction_by
+  rule-disjunction =
+      rule-chain entry as_or (conjunction entry inner room) (conjunction_by entry inner_by room) (word (codes "or") ∷ []) and_forms (some_word (codes "or")) _ refl looks-or-word.under refl
+      rule-conjunction

@@ -1,0 +1,96 @@
+-- The parts of the grammar of expressions, from the loosest: what a tighter one spells, a looser one spells too, and chains go on.
+use Rattle.std.proofs.Common.{◌≡◌, ◌∙◌, inr, ℕ, zero, suc, ◌+◌, List, [], ◌++◌, length, Option, refl, sym, ap, subst, append_assoc}
+use Rattle.std.proofs.lemmas.List.{append-nil, length-append}
+use native.Mathlib.Omega.{arith}
+use Rattle.ft_tree.specs.declared.expr.Expr.{Expr}
+use Rattle.ft_parse.specs.Lexeme.{Lexeme}
+use Rattle.ft_parse.specs.Language.{Language, Step, times, ◌▷◌}
+use Rattle.ft_parse.specs.Expressions.{Nest, as_and, as_or, as_product, as_sum, atom, chain, comparison, conjunction, disjunction, negation, product, right_of, sum, unary}
+use Rattle.ft_parse.specs.declared.parts.Entry.{Entry}
+use Rattle.ft_parse.specs.declared.parts.Operator.{Operator}
+use Rattle.ft_parse.proofs.Writes.{Within}
+
+-- the part of a rank
+abbrev pub part_at : Entry → (Nest → Language Expr) → (room : ℕ) → ℕ → Language Expr
+part_at entry inner room zero = disjunction entry inner room
+part_at entry inner room (suc zero) = conjunction entry inner room
+part_at entry inner room (suc (suc zero)) = negation entry inner room
+part_at entry inner room (suc (suc (suc zero))) = comparison entry inner room
+part_at entry inner room (suc (suc (suc (suc zero)))) = sum entry inner room
+part_at entry inner room (suc (suc (suc (suc (suc zero))))) = product entry inner room
+part_at entry inner room (suc (suc (suc (suc (suc (suc zero)))))) = unary entry inner room
+part_at entry inner room (suc (suc (suc (suc (suc (suc (suc r))))))) = atom entry inner room
+
+-- the rank so many after one
+abbrev pub after : ℕ → ℕ → ℕ
+after zero r = r
+after (suc k) r = suc (after k r)
+
+pub after-is : (k r : ℕ) → after k r ≡ k + r
+after-is zero r = omega arith
+after-is (suc k) r = omega (arith, after-is k r)
+
+chained : (entry : Entry) (ops : Lexeme → Option Operator) (operand : Language Expr) → Within operand (chain entry ops operand)
+unfolding ◌▷◌ times
+chained entry ops operand = record { up = λ at steps e h. (e, steps, [], sym (append-nil steps), h, (0, (refl, refl))) }
+
+compared : (entry : Entry) (inner : Nest → Language Expr) (room : ℕ) → Within (sum entry inner room) (comparison entry inner room)
+unfolding ◌▷◌
+compared entry inner room = record { up = λ at steps e h. (e, steps, [], sym (append-nil steps), h, inr (refl, refl)) }
+
+module _ (entry : Entry) (inner : Nest → Language Expr) (room : ℕ) where
+  looser : (r : ℕ) → Within (part_at entry inner room (suc r)) (part_at entry inner room r)
+  looser zero = chained entry as_or (conjunction entry inner room)
+  looser (suc zero) = chained entry as_and (negation entry inner room)
+  looser (suc (suc zero)) = record { up = λ at steps e h. inr h }
+  looser (suc (suc (suc zero))) = compared entry inner room
+  looser (suc (suc (suc (suc zero)))) = chained entry as_sum (product entry inner room)
+  looser (suc (suc (suc (suc (suc zero))))) = chained entry as_product (unary entry inner room)
+  looser (suc (suc (suc (suc (suc (suc zero)))))) = record { up = λ at steps e h. inr h }
+  looser (suc (suc (suc (suc (suc (suc (suc r))))))) = record { up = λ at steps e h. h }
+
+  pub lift : (k r : ℕ) → Within (part_at entry inner room (after k r)) (part_at entry inner room r)
+  lift zero r = record { up = λ at steps e h. h }
+  lift (suc k) r = record { up = λ at steps e h. (lift k r).up at steps e ((looser (after k r)).up at steps e h) }
+
+-- one turn more
+times-more : {A : Type 0} (part : A → Language A) (n at : ℕ) (us vs : List Step) (a b c : A) → times n part a at us b
+    → part b (at + length us) vs c
+    → times (suc n) part a at (us ++ vs) c
+unfolding ◌▷◌ times
+times-more part zero at us vs a b c (none, same) h =
+    let place : at + length us ≡ at = ap (λ (l : List Step). at + length l) none ∙ omega arith in
+    let turn : part a at vs c = subst (λ (k : ℕ). part a k vs c) place (subst (λ x. part x (at + length us) vs c) (sym same) h) in
+    (c, vs, [], ap (λ (l : List Step). l ++ vs) none ∙ sym (append-nil vs), turn, (refl, refl))
+times-more part (suc n) at us vs a b c (d, u, w, is, f, t) h =
+    let long : length us ≡ length u + length w = ap length is ∙ length-append u w in
+    let place : at + length us ≡ at + length u + length w = omega (arith, long) in (
+      d,
+      u,
+      w ++ vs,
+      ap (λ (l : List Step). l ++ vs) is ∙ append_assoc u w vs,
+      f,
+      times-more part n (at + length u) w vs d b c t (subst (λ (k : ℕ). part b k vs c) place h),
+    )
+
+-- a chain goes on
+pub chain-more : (entry : Entry) (ops : Lexeme → Option Operator) (operand : Language Expr)
+    → Within (chain entry ops operand ▷ λ left. right_of entry ops operand left) (chain entry ops operand)
+unfolding ◌▷◌
+chain-more entry ops operand = record { up = go } where
+  go : (at : ℕ) (steps : List Step) (e : Expr) → (chain entry ops operand ▷ λ left. right_of entry ops operand left) at steps e
+      → chain entry ops operand at steps e
+  go at steps e (left, us, vs, is, (first, u, w, split, f, (n, t)), h) =
+      let long : length us ≡ length u + length w = ap length split ∙ length-append u w in
+      let place : at + length us ≡ at + length u + length w = omega (arith, long) in (
+        first,
+        u,
+        w ++ vs,
+        is ∙ ap (λ (l : List Step). l ++ vs) split ∙ append_assoc u w vs,
+        f,
+        (
+          suc n,
+          times-more (right_of entry ops operand) n (at + length u) w vs first left e t
+              (subst (λ (k : ℕ). right_of entry ops operand left k vs e) place h),
+        ),
+      )

@@ -1,0 +1,110 @@
+-- The pieces of words, signs, names and numbers, and what their tokens are read as.
+use Rattle.std.proofs.Common.{◌≡◌, ◌∙◌, sym, refl, ℕ, ◌+◌, ◌*◌, ◌-◌, ◌%◌, ◌^◌, ◌<◌, Bool, true, false, not, ◌&&◌, List, [], ◌∷◌, ◌++◌, decimal, length, nat_le, Option, Some, None}
+use native.Mathlib.Omega.{arith}
+use Rattle.std.specs.List.{list_all}
+use Rattle.std.specs.Str.{bytes_eq}
+use Rattle.std.proofs.lemmas.Bool.{and_parts, leb-true, not-true, false_from_ne_true, both_ways}
+use Rattle.std.proofs.lemmas.Bool.Decides.{nat_tests}
+use Rattle.std.proofs.lemmas.Fmt.{decimal_by_steps}
+use Rattle.std.proofs.lemmas.List.Elements.{All-contains}
+use Rattle.std.proofs.lemmas.List.Sums.{fold-append}
+use Rattle.std.proofs.lemmas.Map.Views.{Contains-from_any}
+use Rattle.std.proofs.lemmas.Slice.Eq.{bytes_eq-Decides}
+use Rattle.ft_base.specs.declared.place.Place.{Place}
+use Rattle.ft_lex.specs.declared.token.TokenKind.{TokenKind}
+use Rattle.ft_lex.specs.declared.token.TokenKind.TheVariants as kind
+use Rattle.ft_lex.specs.Bytes.{is_digit, is_name_byte}
+use Rattle.ft_lex.specs.Words.{is_reserved_word, reserved_words}
+use Rattle.ft_lex.proofs.SignLemmas.{all-tested}
+use Rattle.ft_tree.specs.Limits.{begins_by_letter, is_name, is_number}
+use Rattle.ft_tree.specs.Tokens.{begins_by_digit, kind_of}
+use Rattle.ft_parse.specs.Lexeme.{Lexeme, as_sign, as_word, decimal_value}
+use Rattle.ft_parse.specs.Language.{Passes, token}
+use Rattle.ft_parse.specs.Limit.{own_pass}
+use Rattle.ft_parse.proofs.Forms.{itself-bytes}
+use Rattle.ft_parse.proofs.Writes.{Writes, lexeme_at, one, shaped}
+
+-- a token of known bytes and kind
+pub mark : {A : Type 0} {read : Lexeme → Option A} {passes : Passes} {at : ℕ} {G : A → Type 0} (t : List ℕ) (k : TokenKind)
+    → kind_of t ≡ k
+    → ((place : Place) → (a : A) × (read (lexeme_at (k, t) place) ≡ Some a) × (passes at (lexeme_at (k, t) place) ≡ None) × G a)
+    → Writes (token read passes) at ((kind_of t, t) ∷ []) G
+mark t k is each = shaped (λ i. (sym is i, t) ∷ []) (one (k, t) each)
+
+pub reads-word : (w : List ℕ) (place : Place) → as_word w (lexeme_at (kind.Word, w) place) ≡ Some place
+reads-word w place = rw (itself-bytes w) refl
+
+pub reads-sign : (w : List ℕ) (place : Place) → as_sign w (lexeme_at (kind.Sign, w) place) ≡ Some place
+reads-sign w place = rw (itself-bytes w) refl
+
+pub name-kind : (name : List ℕ) → is_name name ≡ true → kind_of name ≡ kind.Name
+name-kind name h =
+    let bytes : Bool = begins_by_letter name && list_all is_name_byte name in
+    let (short, free) = and_parts (bytes && nat_le (length name) 40) (not (is_reserved_word name)) h in
+    let (word, _) = and_parts bytes (nat_le (length name) 40) short in
+    let (letter, _) = and_parts (begins_by_letter name) (list_all is_name_byte name) word in
+    rw (not-true _ free, letter) refl
+
+pub name-own : (name : List ℕ) → is_name name ≡ true → (place : Place) → own_pass (lexeme_at (kind.Name, name) place) ≡ None
+name-own name h place =
+    let bytes : Bool = begins_by_letter name && list_all is_name_byte name in
+    let (short, free) = and_parts (bytes && nat_le (length name) 40) (not (is_reserved_word name)) h in
+    let (_, few) = and_parts bytes (nat_le (length name) 40) short in
+    rw few refl
+
+-- decimal digits, and their value
+record IsDecimal (n : ℕ) (bytes : List ℕ) : Type 0 where
+  first : begins_by_digit bytes ≡ true
+  value : decimal_value bytes ≡ n
+
+digit-is : (n : ℕ) → n < 10 → is_digit (48 + n) ≡ true
+digit-is n h = grind (arith, nat_tests)
+
+begins-push : (bytes : List ℕ) (b : ℕ) → begins_by_digit bytes ≡ true → begins_by_digit (bytes ++ b ∷ []) ≡ true
+begins-push [] b h = absurd (cc h)
+begins-push (c ∷ more) b h = h
+
+decimal-is : (n : ℕ) → n < 2 ^ 64 → IsDecimal n (decimal n)
+decimal-is n small = decimal_by_steps IsDecimal
+    (λ m below. record { first = digit-is m below; value = omega arith })
+    (λ m bytes large before. record {
+      first = begins-push bytes (48 + m % 10) before.first;
+      value = fold-append (λ value digit. value * 10 + (digit - 48)) 0 bytes ((48 + m % 10) ∷ []) ∙ omega (arith, before.value);
+    }) n small
+
+small : (value : ℕ) → is_number value ≡ true → value < 2 ^ 64
+small value h = omega (arith, leb-true value 1000000000 h)
+
+pub value-back : (value : ℕ) → is_number value ≡ true → decimal_value (decimal value) ≡ value
+value-back value h = (decimal-is value (small value h)).value
+
+pub number-own : (value : ℕ) → is_number value ≡ true → (place : Place) → own_pass (lexeme_at (kind.Number, decimal value) place)
+    ≡ None
+number-own value h place = rw (value-back value h, h) refl
+
+reserved-letters : list_all begins_by_letter reserved_words ≡ true
+unfolding reserved_words
+reserved-letters = refl
+
+same-bytes : (bytes other : List ℕ) → bytes_eq bytes other ≡ true → bytes ≡ other
+same-bytes bytes other h = (bytes_eq-Decides bytes other).0 h
+
+reserved-begins : (bytes : List ℕ) → is_reserved_word bytes ≡ true → begins_by_letter bytes ≡ true
+unfolding is_reserved_word
+reserved-begins bytes h =
+    All-contains (λ (x : List ℕ). begins_by_letter x ≡ true) reserved_words bytes
+    (all-tested begins_by_letter reserved_words reserved-letters)
+    (Contains-from_any same-bytes bytes reserved_words h)
+
+digit-no_letter : (bytes : List ℕ) → begins_by_digit bytes ≡ true → begins_by_letter bytes ≡ false
+digit-no_letter [] h = refl
+digit-no_letter (b ∷ more) h = grind (arith, nat_tests)
+
+pub number-kind : (value : ℕ) → is_number value ≡ true → kind_of (decimal value) ≡ kind.Number
+number-kind value h =
+    let bytes : List ℕ = decimal value in
+    let digit = (decimal-is value (small value h)).first in
+    let no_letter = digit-no_letter bytes digit in
+    let free = false_from_ne_true (is_reserved_word bytes)
+    (λ reserved. both_ways (begins_by_letter bytes) no_letter (reserved-begins bytes reserved)) in
+    rw (free, no_letter, digit) refl

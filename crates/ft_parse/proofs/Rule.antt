@@ -1,0 +1,91 @@
+-- A part of the grammar with the parser that reads it.
+use Rattle.std.proofs.Common.{◌≡◌, ◌∙◌, inl, inr, ℕ, ◌+◌, Bool, List, [], ◌∷◌, ◌++◌, length, Option, Some, refl, ap}
+use Rattle.ft_parse.specs.Lexeme.{Lexeme}
+use Rattle.ft_parse.specs.Language.{Language, Passes, Step, either, nothing, repeated, step, token, ◌▷◌}
+use Rattle.ft_parse.specs.Reading.{Parser, Seen, can, either_by, give, many, read_token, ◌▶◌}
+use Rattle.ft_parse.proofs.Told.{Begins, Told, told-either, told-give, told-then, told-token}
+use Rattle.ft_parse.proofs.Many.{Heads, any-more, told-many}
+use Rattle.ft_parse.proofs.Whole.{Apart, Calms, Under, Whole, calms-never, never, whole-either, whole-give, whole-many, whole-then, whole-token, whole-weaker}
+
+-- the parser reads the part: it stops where no text goes on, and it reads what is spelled where no token of `more` follows
+pub record Rule {A : Type 0} (L : Language A) (p : Parser A) (more : Lexeme → Bool) : Type 0 where
+  pub told : (s : Seen) → Told L p s (p s)
+  pub whole : Whole L p more
+  pub some : (at : ℕ) → Begins L at []
+
+pub rule-give : {A : Type 0} (a : A) → Rule (nothing a) (give a) never
+rule-give a = record { told = told-give a; whole = whole-give a; some = λ at. ([], a, (refl, refl)) }
+
+pub rule-token : {A : Type 0} (read : Lexeme → Option A) (passes : Passes) (l : Lexeme) (a : A) → read l ≡ Some a → Rule (token read passes) (read_token read passes) never
+rule-token read passes l a e = record {
+  told = told-token read passes (λ at. (step l (passes at l) ∷ [], a, (l, refl, e)));
+  whole = whole-token read passes;
+  some = λ at. (step l (passes at l) ∷ [], a, (l, refl, e));
+}
+
+pub rule-weaker : {A : Type 0} (L : Language A) (p : Parser A) (small big : Lexeme → Bool) → Under small big → Rule L p small → Rule L p big
+rule-weaker L p small big under r = record { told = r.told; whole = whole-weaker L p small big under r.whole; some = r.some }
+
+module _ {A B : Type 0} (L : Language A) (M : A → Language B) (p : Parser A) (q : A → Parser B) where
+  some-then : ((at : ℕ) → Begins L at []) → ((a : A) (at : ℕ) → Begins (M a) at []) → (at : ℕ) → Begins (L ▷ M) at []
+  unfolding ◌▷◌
+  some-then first second at =
+      let (us, a, h) = first at in
+      let (vs, b, k) = second a (at + length us) in
+      (us ++ vs, b, (a, us, vs, refl, h, k))
+
+  -- a part that may go on, and another whose texts don't begin so
+  pub rule-then : (more after : Lexeme → Bool) → ((a : A) → Calms (M a) more after) → Rule L p more → ((a : A) → Rule (M a) (q a) after) → Rule (L ▷ M) (p ▶ q) after
+  rule-then more after calms r t = record {
+    told = λ s. told-then L M p q (λ a. (t a).some) s (p s) (r.told s) (λ a mid g. (t a).told mid);
+    whole = whole-then L M p q more after r.whole (λ a. (t a).whole) calms;
+    some = some-then r.some (λ a. (t a).some);
+  }
+
+  -- a part that never goes on, and another
+  pub rule-next : (after : Lexeme → Bool) → Rule L p never → ((a : A) → Rule (M a) (q a) after) → Rule (L ▷ M) (p ▶ q) after
+  rule-next after r t = rule-then never after (λ a. calms-never (M a) after) r t
+
+pub heads-then : {A B : Type 0} (L : Language A) (M : A → Language B) (test : Lexeme → Bool) → Heads L test → Heads (L ▷ M) test
+unfolding ◌▷◌
+heads-then L M test heads at steps b (a, us, vs, is, h, k) =
+    let (s, more, head, e) = heads at us a h in
+    (s, more ++ vs, is ∙ ap (λ (xs : List Step). xs ++ vs) head, e)
+
+pub heads-token : {A : Type 0} (read : Lexeme → Option A) (passes : Passes) → Heads (token read passes) (can read)
+heads-token read passes at steps a (l, is, e) = (step l (passes at l), [], is, rw e refl)
+
+pub heads-weaker : {A : Type 0} (L : Language A) (small big : Lexeme → Bool) → Under small big → Heads L small → Heads L big
+heads-weaker L small big under heads at steps a h =
+    let (s, more, is, e) = heads at steps a h in
+    (s, more, is, under s.lexeme e)
+
+pub heads-either : {A : Type 0} (L M : Language A) (test : Lexeme → Bool) → Heads L test → Heads M test → Heads (either L M) test
+heads-either L M test one other at steps a (inl h) = one at steps a h
+heads-either L M test one other at steps a (inr h) = other at steps a h
+
+module _ {A : Type 0} (L M : Language A) (test : Lexeme → Bool) (p q : Parser A) (after : Lexeme → Bool) where
+  pub rule-either : Heads L test → Calms M test after → Rule L p after → Rule M q after → Rule (either L M) (either_by test p q) after
+  rule-either heads calms r t = record {
+    told = told-either L M test p q r.told t.told;
+    whole = whole-either L M test p q after heads r.whole t.whole calms;
+    some = λ at. let (us, a, h) = r.some at in (us, a, inl h);
+  }
+
+module _ {A : Type 0} (part : A → Language A) (test : Lexeme → Bool) (p : A → Parser A) (inner after : Lexeme → Bool) where
+  pub rule-many : ((a : A) → Heads (part a) test) → Apart test inner → Under inner after → Under test after → ((a : A) → Rule (part a) (p a) inner)
+      → (a : A) → Rule (repeated part a) (many test p a) after
+  rule-many heads apart inner-under test-under r a = record {
+    told = told-many part test p (λ b. (r b).told) heads a;
+    whole = whole-many part test p inner after (λ b. (r b).told) heads apart inner-under test-under (λ b. (r b).whole) a;
+    some = any-more part test p (λ b. (r b).told) heads a;
+  }
+
+-- the same, with the parts as the goal has them
+pub next : {A B : Type 0} {L : Language A} {M : A → Language B} {p : Parser A} {q : A → Parser B} {after : Lexeme → Bool}
+    → Rule L p never → ((a : A) → Rule (M a) (q a) after) → Rule (L ▷ M) (p ▶ q) after
+next {A} {B} {L} {M} {p} {q} {after} r t = rule-next L M p q after r t
+
+pub before : {A B : Type 0} {L : Language A} {M : A → Language B} {p : Parser A} {q : A → Parser B} {more after : Lexeme → Bool}
+    → ((a : A) → Calms (M a) more after) → Rule L p more → ((a : A) → Rule (M a) (q a) after) → Rule (L ▷ M) (p ▶ q) after
+before {A} {B} {L} {M} {p} {q} {more} {after} calms r t = rule-then L M p q more after calms r t

@@ -1,0 +1,13 @@
+use Rattle.std.proofs.Common.{◌≡◌, codes, length}
+use Rattle.ft_parse.specs.Lexeme.{as_word}
+use Rattle.ft_parse.specs.ReadItems.{row_by}
+use Rattle.ft_parse.specs.Reading.{can, many}
+use Rattle.ft_parse.specs.Steps.{one_more}
+use Rattle.ft_parse.proofs.tables.rows.Given as goal
+
+abbrev pub invariant-loop-alloc : goal.invariant-loop-alloc
+invariant-loop-alloc l =
+    many (can (as_word (codes "row"))) (one_more row_by) l.initial.rows l.initial.cursor ≡ many (can (as_word (codes "row"))) (one_more row_by) l.rows l.cursor
+
+abbrev pub decreases-loop-alloc : goal.decreases-loop-alloc
+decreases-loop-alloc l = length l.cursor.rest

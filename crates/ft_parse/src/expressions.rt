@@ -1,0 +1,226 @@
+ghost use Rattle.std.specs.Prelude.{◌≡◌, ℕ, List, codes, IfOk};
+ghost use Rattle.ft_base.specs.declared.place.Place.{Place};
+ghost use Rattle.ft_tree.specs.declared.expr.Expr.{Expr};
+ghost use Rattle.ft_tree.specs.declared.expr.Expr.TheVariants as expr;
+ghost use Rattle.ft_parse.specs.Expressions.{negated, signed, whole};
+ghost use Rattle.ft_parse.specs.Levels.{inner_by, level_by, operand_by, ops_of};
+ghost use Rattle.ft_parse.specs.Lexeme.{as_sign, as_word};
+ghost use Rattle.ft_parse.specs.Reading.{Gives};
+ghost use Rattle.ft_parse.specs.ReadExpressions.{atom_by, comparison_by, expression_by, group_by, history_by, negation_by, prefixed_by, right_by, unary_by};
+
+use crate::cursor::Cursor;
+use crate::limits::Limits;
+use crate::operators::{Level, is_operator, join, read_operator};
+use crate::parts::Entry;
+use crate::simple::{is_simple, read_simple};
+use crate::stop::Stop;
+use ft_base::{Boxed, NoMemory, Place, Text};
+use ft_tree::Expr;
+use std::alloc::Global;
+
+/// How many `(`, `not` and `-` before an operand may be open at once.
+const MOST_OPEN: u32 = 64;
+
+/// `not of`.
+fn not(alloc: Global, of: Expr, place: Place) -> Result<Expr, NoMemory>
+    ensures { IfOk result (λ made. made ≡ expr.Not of place) }
+{
+    let of = Boxed::new(alloc, of)?;
+    Ok(Expr::Not { of, place })
+}
+
+/// `-of`.
+fn minus(alloc: Global, of: Expr, place: Place) -> Result<Expr, NoMemory>
+    ensures { IfOk result (λ made. made ≡ expr.Neg of place) }
+{
+    let of = Boxed::new(alloc, of)?;
+    Ok(Expr::Neg { of, place })
+}
+
+/// `prev` or `age` with a name in parentheses. It gives the name and the place of the word.
+#[tactic(auto, unfolding(crate::specs::ReadExpressions::history_by))]
+fn history(
+    alloc: Global,
+    cursor: &mut Cursor,
+    word: &[u8],
+    entry: Entry,
+    room: u32,
+) -> Result<(Text, Place), Stop>
+    ensures { (make : List ℕ → Place → Expr)
+        → Gives (λ read. make read.0 read.1) result cursor.new (history_by entry room word.now make cursor.old) }
+{
+    let place = cursor.word(word, Limits::Within(entry))?;
+    cursor.open_sign(b"(", entry, room)?;
+    let name = cursor.name(alloc, Limits::Within(entry))?;
+    cursor.sign(b")", Limits::Within(entry))?;
+    Ok((name.text, place))
+}
+
+/// An expression in parentheses.
+#[cycle(expression)]
+#[tactic(auto, using(crate::proofs::LevelLemmas::inner), unfolding(crate::specs::ReadExpressions::group_by))]
+fn group(alloc: Global, cursor: &mut Cursor, entry: Entry, room: u32) -> Result<Expr, Stop>
+    ensures { Gives (λ e. e) result cursor.new (group_by entry (inner_by room entry) room cursor.old) }
+{
+    let (_, inside) = cursor.open_sign(b"(", entry, room)?;
+    let e = chain(alloc, cursor, Level::Disjunction, entry, inside)?;
+    cursor.sign(b")", Limits::Within(entry))?;
+    Ok(e)
+}
+
+/// A number, a name, a truth, a value of the past, or an expression in parentheses.
+#[cycle(expression)]
+#[tactic(auto, unfolding(crate::specs::ReadExpressions::atom_by))]
+fn atom(alloc: Global, cursor: &mut Cursor, entry: Entry, room: u32) -> Result<Expr, Stop>
+    ensures { Gives (λ e. e) result cursor.new (atom_by entry (inner_by room entry) room cursor.old) }
+{
+    if is_simple(cursor) {
+        return read_simple(alloc, cursor, entry);
+    }
+    if cursor.is_word(b"prev") {
+        let (name, place) = history(alloc, cursor, b"prev", entry, room)?;
+        return Ok(Expr::Prev { name, place });
+    }
+    if cursor.is_word(b"age") {
+        let (name, place) = history(alloc, cursor, b"age", entry, room)?;
+        return Ok(Expr::Age { name, place });
+    }
+    group(alloc, cursor, entry, room)
+}
+
+/// A `-` and its operand.
+#[cycle(expression)]
+#[tactic(auto, using(crate::proofs::LevelLemmas::inner), unfolding(crate::specs::ReadExpressions::prefixed_by))]
+fn negative(alloc: Global, cursor: &mut Cursor, entry: Entry, room: u32) -> Result<Expr, Stop>
+    ensures { Gives (λ e. e) result cursor.new
+        (prefixed_by entry room (as_sign (codes "-")) (inner_by room entry signed) expr.Neg cursor.old) }
+{
+    let (place, inside) = cursor.open_sign(b"-", entry, room)?;
+    let of = unary(alloc, cursor, entry, inside)?;
+    Ok(minus(alloc, of, place)?)
+}
+
+/// An operand, with a `-` before it or not.
+#[cycle(expression)]
+#[tactic(auto, unfolding(crate::specs::ReadExpressions::unary_by))]
+fn unary(alloc: Global, cursor: &mut Cursor, entry: Entry, room: u32) -> Result<Expr, Stop>
+    ensures { Gives (λ e. e) result cursor.new (unary_by entry (inner_by room entry) room cursor.old) }
+{
+    if cursor.is_sign(b"-") {
+        negative(alloc, cursor, entry, room)
+    } else {
+        atom(alloc, cursor, entry, room)
+    }
+}
+
+/// Two sums with an operator that compares between them, or one sum.
+#[cycle(expression)]
+#[tactic(auto, unfolding(crate::specs::ReadExpressions::comparison_by))]
+fn comparison(alloc: Global, cursor: &mut Cursor, entry: Entry, room: u32) -> Result<Expr, Stop>
+    ensures { Gives (λ e. e) result cursor.new (comparison_by entry (inner_by room entry) room cursor.old) }
+{
+    let left = operand(alloc, cursor, Level::Comparison, entry, room)?;
+    if is_operator(cursor, Level::Comparison) {
+        right(alloc, cursor, Level::Comparison, entry, room, left)
+    } else {
+        Ok(left)
+    }
+}
+
+/// A `not` and its operand.
+#[cycle(expression)]
+#[tactic(auto, using(crate::proofs::LevelLemmas::inner), unfolding(crate::specs::ReadExpressions::prefixed_by))]
+fn opposite(alloc: Global, cursor: &mut Cursor, entry: Entry, room: u32) -> Result<Expr, Stop>
+    ensures { Gives (λ e. e) result cursor.new
+        (prefixed_by entry room (as_word (codes "not")) (inner_by room entry negated) expr.Not cursor.old) }
+{
+    let (place, inside) = cursor.open_word(b"not", entry, room)?;
+    let of = negation(alloc, cursor, entry, inside)?;
+    Ok(not(alloc, of, place)?)
+}
+
+/// A comparison, with a `not` before it or not.
+#[cycle(expression)]
+#[tactic(auto, unfolding(crate::specs::ReadExpressions::negation_by))]
+fn negation(alloc: Global, cursor: &mut Cursor, entry: Entry, room: u32) -> Result<Expr, Stop>
+    ensures { Gives (λ e. e) result cursor.new (negation_by entry (inner_by room entry) room cursor.old) }
+{
+    if cursor.is_word(b"not") {
+        opposite(alloc, cursor, entry, room)
+    } else {
+        comparison(alloc, cursor, entry, room)
+    }
+}
+
+/// What stands between the operators of a level.
+#[cycle(expression)]
+#[tactic(auto, using(crate::proofs::LevelLemmas::levels))]
+fn operand(
+    alloc: Global,
+    cursor: &mut Cursor,
+    level: Level,
+    entry: Entry,
+    room: u32,
+) -> Result<Expr, Stop>
+    ensures { Gives (λ e. e) result cursor.new (operand_by level entry (inner_by room entry) room cursor.old) }
+{
+    match level {
+        Level::Disjunction => chain(alloc, cursor, Level::Conjunction, entry, room),
+        Level::Conjunction => negation(alloc, cursor, entry, room),
+        Level::Comparison => chain(alloc, cursor, Level::Sum, entry, room),
+        Level::Sum => chain(alloc, cursor, Level::Product, entry, room),
+        Level::Product => unary(alloc, cursor, entry, room),
+    }
+}
+
+/// An operator of a level and its right operand.
+#[cycle(expression)]
+#[tactic(auto, unfolding(crate::specs::ReadExpressions::right_by))]
+fn right(
+    alloc: Global,
+    cursor: &mut Cursor,
+    level: Level,
+    entry: Entry,
+    room: u32,
+    left: Expr,
+) -> Result<Expr, Stop>
+    ensures { Gives (λ e. e) result cursor.new
+        (right_by entry (ops_of level) (operand_by level entry (inner_by room entry) room) left cursor.old) }
+{
+    let operator = read_operator(cursor, level, entry)?;
+    let right = operand(alloc, cursor, level, entry, room)?;
+    Ok(join(alloc, operator, left, right)?)
+}
+
+/// Operands of a level with its operators between them. They group to the left.
+#[cycle(expression)]
+#[tactic(auto, using(crate::proofs::LevelLemmas::turns))]
+fn chain(
+    alloc: Global,
+    cursor: &mut Cursor,
+    level: Level,
+    entry: Entry,
+    room: u32,
+) -> Result<Expr, Stop>
+    ensures { Gives (λ e. e) result cursor.new (level_by level entry room cursor.old) }
+{
+    let mut left = operand(alloc, cursor, level, entry, room)?;
+    while is_operator(cursor, level) {
+        left = right(alloc, cursor, level, entry, room, left)?;
+    }
+    Ok(left)
+}
+
+/// An expression. Where it is an entry too many, its first token is refused.
+#[tactic(auto, using(crate::proofs::LevelLemmas::wholes))]
+pub fn expression(alloc: Global, cursor: &mut Cursor, is_beyond: bool) -> Result<Expr, Stop>
+    ensures { Gives (λ e. e) result cursor.new (expression_by is_beyond cursor.old) }
+{
+    let first = cursor.first().ok_or(Stop::Syntax)?;
+    let entry = Entry {
+        before: cursor.at(),
+        start: first.place,
+        is_beyond,
+    };
+    chain(alloc, cursor, Level::Disjunction, entry, MOST_OPEN)
+}
