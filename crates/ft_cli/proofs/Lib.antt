@@ -1,5 +1,7 @@
 pub mod LexemeLemmas
 pub mod FormLemmas
+pub mod SpellingLemmas
+pub mod OneSetLemmas
 pub mod SetLemmas
 pub mod RangeLemmas
 pub mod CellRows
@@ -8,3 +10,4 @@ pub mod VerdictLemmas
 pub mod ReportLemmas
 pub mod JoinLemmas
 pub mod TopLemmas
+mod ShortLemmas

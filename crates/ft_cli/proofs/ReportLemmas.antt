@@ -1,11 +1,10 @@
 -- What a form's tests say of its set: too many points, and the first table that isn't proper.
-use Rattle.std.proofs.Common.{◌≡◌, ◌∙◌, sym, ap, subst, refl, ℕ, zero, suc, ◌<◌, ◌++◌, ℤ, pos, Bool, true, false, List, [], ◌∷◌, slice_get, Option, Some, None, ◌⊎◌, inl, inr, ⊎_elim, codes, arith, true≢false}
-use Rattle.std.specs.Prelude.{IsTrue, ◌==◌, if◌then◌else◌}
+use Rattle.std.proofs.Common.{◌≡◌, ◌∙◌, sym, ap, subst, refl, ℕ, zero, suc, ◌<◌, ◌++◌, ℤ, pos, Bool, true, false, List, [], ◌∷◌, slice_get, Option, Some, None, inl, inr, ⊎_elim, codes, true≢false}
+use Rattle.std.specs.Prelude.{◌==◌, if◌then◌else◌}
 use Rattle.std.proofs.lemmas.Bool.{eq-eqb, eqb-true}
 use Rattle.std.proofs.lemmas.Option.{none-some, same_Some}
 use Rattle.ft_base.specs.Interval.{IsWithin}
 use Rattle.ft_core.specs.declared.tables.Tables.{Tables}
-use Rattle.ft_core.specs.declared.tables.Table.{Table}
 use Rattle.ft_core.specs.declared.tables.Var.{Var}
 use Rattle.ft_core.specs.declared.tables.VarKind.{VarKind}
 use Rattle.ft_core.specs.declared.tables.VarKind.TheVariants.{Mon, Con, Input, Output}
@@ -15,23 +14,22 @@ use Rattle.ft_core.specs.Kinds.{monitored, inputs, outputs}
 use Rattle.ft_core.specs.Reads.{Read, grid_reads}
 use Rattle.ft_mean.specs.Value.{View}
 use Rattle.ft_mean.specs.Proper.{IsLocal, IsProper}
-use Rattle.ft_cli.specs.Form.{AreGoodVariables, IsGoodForm, SpellsForm, bounds_of}
-use Rattle.ft_cli.specs.FormSet.{IsSetOf, Spells, block_of, table_of, tables_of, var_of, vars_of}
+use Rattle.ft_cli.specs.Form.{AreGoodVariables, IsGoodForm, bounds_of}
+use Rattle.ft_cli.specs.FormSet.{AreShort, IsSetOf, block_of, table_of, tables_of, var_of, vars_of}
 use Rattle.ft_cli.specs.Judgement.{HasPoints, IsFirstImproper, IsLarge, IsTitle}
 use Rattle.ft_cli.specs.Report.{section_word}
 use Rattle.ft_cli.specs.Rows.{is_proper_at}
 use Rattle.ft_cli.specs.Verdict.{HasLarge, IsFirstImproperIn, IsImproperIn, IsImproperOn, defined_in, place_in}
 use Rattle.ft_cli.specs.declared.form.Row.{Row}
 use Rattle.ft_cli.specs.declared.form.Variable.{Variable}
-use Rattle.ft_cli.specs.declared.form.Variables.{Variables}
 use Rattle.ft_cli.specs.declared.form.Form.{Form}
 use Rattle.ft_cli.proofs.CellRows.{rows-proper}
 use Rattle.ft_cli.proofs.SetLemmas.{inits-good, sound-of}
-use Rattle.ft_cli.proofs.VerdictLemmas.{declared, is_declared, proper-in, section-at, table_in, target_in, there-in}
+use Rattle.ft_cli.proofs.VerdictLemmas.{declared, is_declared, proper-in, section-at, table_in, there-in}
 
 -- the set of a good form
-pub set-of : (f : Form) → IsGoodForm f → Tables
-set-of f good = record {
+pub set-of : (f : Form) → IsGoodForm f → AreShort f.rows → Tables
+set-of f good short = record {
   name = f.name;
   period = pos f.period;
   splits = 1000;
@@ -43,12 +41,12 @@ set-of f good = record {
   always = [];
   step = [];
   blocks = block_of f.block ∷ [];
-  sound = sound-of f good;
+  sound = sound-of f good short;
 }
 
-pub is-set : (f : Form) (good : IsGoodForm f) → IsSetOf f (set-of f good)
+pub is-set : (f : Form) (good : IsGoodForm f) (short : AreShort f.rows) → IsSetOf f (set-of f good short)
 unfolding set-of
-is-set f good = record {
+is-set f good short = record {
   name = refl;
   period = refl;
   splits = refl;

@@ -1,15 +1,18 @@
 -- The set of a form is sound: what its tables read, that each variable has its table, and an order.
-use Rattle.std.proofs.Common.{◌≡◌, ◌∙◌, sym, ap, subst, refl, ℕ, zero, suc, ◌<◌, ℤ, pos, Bool, true, false, ◌||◌, List, [], ◌∷◌, ◌++◌, map, slice_get, Some, arith, ⊎_elim, true≢false}
-use Rattle.std.specs.Prelude.{IsTrue, ◌==◌, if◌then◌else◌}
-use Rattle.std.specs.List.{Contains, flat_map, list_any}
+use Rattle.std.proofs.Common.{◌≡◌, ◌∙◌, sym, ap, subst, refl, ℕ, zero, suc, ◌<◌, ℤ, pos, Bool, true, false, ◌&&◌, ◌||◌, List, [], ◌∷◌, ◌++◌, map, slice_get, Some, arith, ⊎_elim, true≢false}
+use Rattle.std.specs.Prelude.{IsTrue, ◌==◌, nat_le, unsigned_abs, if◌then◌else◌}
+use Rattle.std.specs.List.{Contains, flat_map, list_all, list_any}
 use Rattle.std.proofs.lemmas.Int.{ints}
-use Rattle.std.proofs.lemmas.Bool.{and_parts, or_cases, or_left, or_right}
+use Rattle.std.proofs.lemmas.Bool.{and_parts, and_from, or_cases, or_left, or_right}
 use Rattle.std.proofs.lemmas.List.Elements.{Contains-append_cases}
 use Rattle.std.proofs.lemmas.Option.{none-some, same_Some}
 use Rattle.ft_base.specs.Interval.{IsWithin}
 use Rattle.ft_core.specs.declared.tables.Table.{Table}
 use Rattle.ft_core.specs.declared.tables.Var.{Var}
+use Rattle.ft_core.specs.declared.tables.VarKind.{VarKind}
+use Rattle.ft_core.specs.declared.tables.VarKind.TheVariants.{Mon, Con, Input, Output}
 use Rattle.ft_core.specs.declared.tables.Memory.{Memory}
+use Rattle.ft_core.specs.declared.tables.Memory.TheVariants.{Held, Hyst}
 use Rattle.ft_core.specs.declared.tables.Section.{Section}
 use Rattle.ft_core.specs.declared.tables.Section.TheVariants as section
 use Rattle.ft_core.specs.declared.term.Term.TheOpen as tl
@@ -18,17 +21,22 @@ use Rattle.ft_core.specs.declared.term.Cond.{Cond}
 use Rattle.ft_core.specs.declared.term.Cond.TheOpen as cl
 use Rattle.ft_core.specs.declared.term.Cond.TheVariants as cond
 use Rattle.ft_core.specs.Kinds.{defined_kinds, is_of}
-use Rattle.ft_core.specs.Grids.{is_for, is_section, defines}
-use Rattle.ft_core.specs.Reads.{Read, at_now, at_before, of_memory, of_age, term_reads, cond_reads, grid_reads}
+use Rattle.ft_core.specs.Grids.{cells_for, is_for, is_section, defines}
+use Rattle.ft_core.specs.Reads.{Read, at_now, at_before, of_memory, of_age, term_reads, cond_reads, grid_reads, cell_reads}
+use Rattle.ft_core.specs.Size.{var_size, is_sized_term, is_sized, is_sized_grid}
 use Rattle.ft_core.specs.Sound.{IsSound, may_read, item_reads, is_current}
+use Rattle.ft_core.proofs.SizeLemmas.{small-Num, small-Now, sized-Yes, sized-Compare}
 use Rattle.ft_core.proofs.TermLemmas.{reads-rolled, cond_reads-rolled}
-use Rattle.ft_cli.specs.Form.{IsGoodForm, AreGoodVariables}
-use Rattle.ft_cli.specs.FormSet.{vars_of, tables_of, table_of, cond_of, term_of}
+use Rattle.ft_mean.proofs.CellLemmas.{own_reads}
+use Rattle.ft_cli.specs.Form.{IsGoodForm, IsGoodVariable, AreGoodVariables, bound_value}
+use Rattle.ft_cli.specs.FormSet.{AreShort, HaveShortNumbers, var_of, vars_of, tables_of, table_of, cond_of, term_of, is_short_bound, is_short_entry, is_short_guard}
+use Rattle.ft_cli.specs.declared.form.Bound.{Bound}
 use Rattle.ft_cli.specs.declared.form.Guard.{Guard}
 use Rattle.ft_cli.specs.declared.form.Guard.TheVariants.{Always, Compare}
 use Rattle.ft_cli.specs.declared.form.Entry.{Entry}
 use Rattle.ft_cli.specs.declared.form.Entry.TheVariants as entry
 use Rattle.ft_cli.specs.declared.form.Row.{Row}
+use Rattle.ft_cli.specs.declared.form.Variable.{Variable}
 use Rattle.ft_cli.specs.declared.form.Variables.{Variables}
 use Rattle.ft_cli.specs.declared.form.TableRows.{TableRows}
 use Rattle.ft_cli.specs.declared.form.Form.{Form}
@@ -169,32 +177,101 @@ module _ (v : Variables) (t : TableRows) where
   read-where true reads q c = (refl, c)
   read-where false reads q c = absurd (omega (arith, c.1))
 
+  -- what the cells for a variable read
+  abbrev own : ℕ → Table → List Read
+  own x table = flat_map cell_reads (cells_for x table.grid)
+
   rank-falls : (r q : Read) → Contains (item_reads [] (tables_of t) r) q → IsTrue (is_current q) → rank q < rank r
   rank-falls (at_before x) q c now = absurd (omega (arith, c.1))
   rank-falls (of_memory m) q c now = absurd (omega (arith, c.1))
   rank-falls (of_age m) q c now = absurd (omega (arith, c.1))
   rank-falls (at_now x) q c now = ⊎_elim
-      (λ by_req. let at = read-where ((1 == x) || false) (grid_reads (table_of section.Req 1 0 t.required).grid) q by_req in
-      falls x q 0 (table-reads section.Req 1 0 t.required q at.1) (or_left (1 == x) (3 == x) (⊎_elim (λ is. is) (λ never. absurd (true≢false (sym never))) (or_cases (1 == x) false at.0))) refl)
+      (λ by_req. let at = read-where ((1 == x) || false) (own x (table_of section.Req 1 0 t.required)) q by_req in
+      falls x q 0 (table-reads section.Req 1 0 t.required q (own_reads (table_of section.Req 1 0 t.required).grid x q at.1)) (or_left (1 == x) (3 == x) (⊎_elim (λ is. is) (λ never. absurd (true≢false (sym never))) (or_cases (1 == x) false at.0))) refl)
       (λ rest. ⊎_elim
-      (λ by_sof. let at = read-where (false || (3 == x)) (grid_reads (table_of section.Sof 3 2 t.design).grid) q by_sof in
-      falls x q 2 (table-reads section.Sof 3 2 t.design q at.1) (or_right (1 == x) (3 == x) at.0) refl)
+      (λ by_sof. let at = read-where (false || (3 == x)) (own x (table_of section.Sof 3 2 t.design)) q by_sof in
+      falls x q 2 (table-reads section.Sof 3 2 t.design q (own_reads (table_of section.Sof 3 2 t.design).grid x q at.1)) (or_right (1 == x) (3 == x) at.0) refl)
       (λ none. absurd (omega (arith, none.1)))
-      (Contains-append_cases (if (false || (3 == x)) then grid_reads (table_of section.Sof 3 2 t.design).grid else []) [] q rest))
-      (Contains-append_cases (if ((1 == x) || false) then grid_reads (table_of section.Req 1 0 t.required).grid else [])
-      ((if (false || (3 == x)) then grid_reads (table_of section.Sof 3 2 t.design).grid else []) ++ []) q c)
+      (Contains-append_cases (if (false || (3 == x)) then own x (table_of section.Sof 3 2 t.design) else []) [] q rest))
+      (Contains-append_cases (if ((1 == x) || false) then own x (table_of section.Req 1 0 t.required) else [])
+      ((if (false || (3 == x)) then own x (table_of section.Sof 3 2 t.design) else []) ++ []) q c)
     where
       falls : (x : ℕ) (q : Read) (read : ℕ) → q ≡ at_now read → ((1 == x) || (3 == x)) ≡ true → rank (at_now read) ≡ 0 → rank q < rank (at_now x)
       falls x q read is one low = subst (λ z. rank z < rank (at_now x)) (sym is)
           (subst (λ n. n < rank (at_now x)) (sym low) (subst (λ b. 0 < (if b then 1 else 0)) (sym one) (omega arith)))
 
+-- a number of 32 bits is small
+number-small : (vars : List Var) (b : Bound) → IsTrue (is_short_bound b) → IsTrue (is_sized_term vars [] (Num (bound_value b)))
+number-small vars b short = small-Num vars [] (bound_value b) ∙ below b short
+  where
+    below : (b : Bound) → IsTrue (is_short_bound b) → nat_le (unsigned_abs (bound_value b)) 1000000000000000 ≡ true
+    below b short = grind (arith, ints, short)
+
+range-small : (v : Variable) → IsGoodVariable v → (k : VarKind) → nat_le (var_size (Some (var_of k v))) 1000000000000000 ≡ true
+range-small v good k = grind (arith, ints, good.range.1, good.range.2)
+
+module _ (v : Variables) (good : AreGoodVariables v) where
+  vars-small : (x : ℕ) → nat_le (var_size (slice_get (vars_of v) x)) 1000000000000000 ≡ true
+  vars-small zero = range-small v.monitored good.monitored Mon
+  vars-small (suc zero) = range-small v.controlled good.controlled Con
+  vars-small (suc (suc zero)) = range-small v.input good.input Input
+  vars-small (suc (suc (suc zero))) = range-small v.output good.output Output
+  vars-small (suc (suc (suc (suc x)))) = refl
+
+  now-small : (x : ℕ) → IsTrue (is_sized_term (vars_of v) [] (Now x))
+  now-small x = small-Now (vars_of v) [] x ∙ vars-small x
+
+  term-sized : (read : ℕ) (e : Entry) → IsTrue (is_short_entry e) → IsTrue (is_sized_term (vars_of v) [] (term_of read e))
+  term-sized read (entry.Number b) short = number-small (vars_of v) b short
+  term-sized read entry.Read short = now-small read
+
+  cond-sized : (read : ℕ) (g : Guard) → IsTrue (is_short_guard g) → IsTrue (is_sized (vars_of v) [] (cond_of read g))
+  cond-sized read Always short = sized-Yes (vars_of v) []
+  cond-sized read (Compare rel b) short = sized-Compare (vars_of v) [] rel (Now read) (Num (bound_value b))
+      ∙ and_from (is_sized_term (vars_of v) [] (Now read)) (is_sized_term (vars_of v) [] (Num (bound_value b))) (now-small read) (number-small (vars_of v) b short)
+
+  conds-sized : (read : ℕ) (rows : List Row) → IsTrue (list_all (λ row. is_short_guard row.guard) rows)
+      → IsTrue (list_all (is_sized (vars_of v) []) (map (λ row. cond_of read row.guard) rows))
+  conds-sized read [] short = refl
+  conds-sized read (row ∷ rows) short =
+      let parts = and_parts (is_short_guard row.guard) (list_all (λ r. is_short_guard r.guard) rows) short in
+      and_from (is_sized (vars_of v) [] (cond_of read row.guard)) (list_all (is_sized (vars_of v) []) (map (λ r. cond_of read r.guard) rows))
+      (cond-sized read row.guard parts.0) (conds-sized read rows parts.1)
+
+  terms-sized : (read : ℕ) (rows : List Row) → IsTrue (list_all (λ row. is_short_entry row.entry) rows)
+      → IsTrue (list_all (list_all (is_sized_term (vars_of v) [])) (map (λ row. term_of read row.entry ∷ []) rows))
+  terms-sized read [] short = refl
+  terms-sized read (row ∷ rows) short =
+      let parts = and_parts (is_short_entry row.entry) (list_all (λ r. is_short_entry r.entry) rows) short in
+      and_from (list_all (is_sized_term (vars_of v) []) (term_of read row.entry ∷ []))
+      (list_all (list_all (is_sized_term (vars_of v) [])) (map (λ r. term_of read r.entry ∷ []) rows))
+      (and_from (is_sized_term (vars_of v) [] (term_of read row.entry)) true (term-sized read row.entry parts.0) refl) (terms-sized read rows parts.1)
+
+  table-sized : (s : Section) (target read : ℕ) (rows : List Row) → HaveShortNumbers rows → IsTrue (is_sized_grid (vars_of v) [] (table_of s target read rows).grid)
+  table-sized s target read rows short =
+      let yes = list_all (is_sized (vars_of v) []) (cond.Yes ∷ []) in
+      let conds = list_all (is_sized (vars_of v) []) (map (λ row. cond_of read row.guard) rows) in
+      and_from (yes && conds) (list_all (list_all (is_sized_term (vars_of v) [])) (map (λ row. term_of read row.entry ∷ []) rows))
+      (and_from yes conds (and_from (is_sized (vars_of v) [] cond.Yes) true (sized-Yes (vars_of v) []) refl) (conds-sized read rows short.0))
+      (terms-sized read rows short.1)
+
+  tables-sized : (t : TableRows) → AreShort t → IsTrue (list_all (λ (table : Table). is_sized_grid (vars_of v) [] table.grid) (tables_of t))
+  tables-sized t short =
+      and_from (is_sized_grid (vars_of v) [] (table_of section.In 2 0 t.input).grid) _ (table-sized section.In 2 0 t.input short.input)
+      (and_from (is_sized_grid (vars_of v) [] (table_of section.Req 1 0 t.required).grid) _ (table-sized section.Req 1 0 t.required short.required)
+      (and_from (is_sized_grid (vars_of v) [] (table_of section.Sof 3 2 t.design).grid) _ (table-sized section.Sof 3 2 t.design short.design)
+      (and_from (is_sized_grid (vars_of v) [] (table_of section.Out 1 3 t.output).grid) true (table-sized section.Out 1 3 t.output short.output) refl)))
+
 -- the set of a good form is sound
-pub sound-of : (f : Form) → IsGoodForm f → IsSound (pos f.period) (vars_of f.variables) [] (tables_of f.rows) [] [] []
-sound-of f good = record {
-  positive = omega (arith, ints, good.period.0);
-  limited = omega (arith, ints, good.period.1);
+pub sound-of : (f : Form) → IsGoodForm f → AreShort f.rows → IsSound (pos f.period) (vars_of f.variables) [] (tables_of f.rows) [] [] []
+sound-of f good short = record {
+  has_period = (omega (arith, ints, good.period.0), omega (arith, ints, good.period.1));
   inits = inits-good f.variables good.variables;
-  memories_sound = λ m memory e. absurd (none-some memory e);
+  timers = λ m name s c hold e. absurd (none-some (Held name s c hold) e);
+  bands = λ m name s e lo hi start there. absurd (none-some (Hyst name s e lo hi start) there);
+  sized_memories = refl;
+  sized_tables = tables-sized f.variables good.variables f.rows short;
+  sized_clauses = refl;
   tables_read = reads-allowed f.variables f.rows;
   memories_read = λ m memory r e c. absurd (none-some memory e);
   first_reads = λ k c r e n. absurd (none-some c e);
@@ -206,14 +283,14 @@ sound-of f good = record {
 }
 
 -- the same of its parts as they were made
-pub sound-at : (f : Form) → IsGoodForm f → (period : ℤ) (vars : List Var) (memories : List Memory) (tables : List Table) (first always step : List Cond)
+pub sound-at : (f : Form) → IsGoodForm f → AreShort f.rows → (period : ℤ) (vars : List Var) (memories : List Memory) (tables : List Table) (first always step : List Cond)
     → period ≡ pos f.period → vars ≡ vars_of f.variables → memories ≡ [] → tables ≡ tables_of f.rows → first ≡ [] → always ≡ [] → step ≡ []
     → IsSound period vars memories tables first always step
-sound-at f good period vars memories tables first always step p v m t a b c =
+sound-at f good short period vars memories tables first always step p v m t a b c =
     subst (λ x. IsSound x vars memories tables first always step) (sym p)
     (subst (λ x. IsSound (pos f.period) x memories tables first always step) (sym v)
     (subst (λ x. IsSound (pos f.period) (vars_of f.variables) x tables first always step) (sym m)
     (subst (λ x. IsSound (pos f.period) (vars_of f.variables) [] x first always step) (sym t)
     (subst (λ x. IsSound (pos f.period) (vars_of f.variables) [] (tables_of f.rows) x always step) (sym a)
     (subst (λ x. IsSound (pos f.period) (vars_of f.variables) [] (tables_of f.rows) [] x step) (sym b)
-    (subst (λ x. IsSound (pos f.period) (vars_of f.variables) [] (tables_of f.rows) [] [] x) (sym c) (sound-of f good)))))))
+    (subst (λ x. IsSound (pos f.period) (vars_of f.variables) [] (tables_of f.rows) [] [] x) (sym c) (sound-of f good short)))))))

@@ -1,5 +1,5 @@
 -- The grammar of the smallest sets: the lexemes of a set, and which sets it admits.
-use Rattle.std.specs.Prelude.{◌≡◌, ℕ, ◌<◌, ◌≤◌, ℤ, pos, neg_ℤ, Bool, true, not, ◌&&◌, List, [], ◌∷◌, length, codes, nat_le, IsTrue, if◌then◌else◌}
+use Rattle.std.specs.Prelude.{◌≡◌, ℕ, ◌<◌, ◌≤◌, ℤ, pos, neg_ℤ, Bool, true, not, ◌&&◌, List, [], ◌∷◌, length, codes, IsTrue, Result, Ok, Err, if◌then◌else◌}
 use Rattle.std.specs.List.{list_all, list_any}
 use Rattle.std.specs.Str.{bytes_eq}
 use Rattle.ft_base.specs.Interval.{IsBounded, IsWithin}
@@ -7,7 +7,9 @@ use Rattle.ft_core.specs.declared.term.Rel.{Rel}
 use Rattle.ft_core.specs.declared.term.Rel.TheVariants as rel
 use Rattle.ft_lex.specs.declared.token.Token.{Token}
 use Rattle.ft_lex.specs.Tokens.{IsTokens}
-use Rattle.ft_cli.specs.Lexeme.{Lexeme, word, name, number, sign, end, bad, lexeme_of, lexemes_of}
+use Rattle.ft_cli.specs.Lexeme.{Lexeme, word, name, number, sign, end, is_short, lexeme_of, lexemes_of}
+use Rattle.ft_cli.specs.declared.cursor.Refusal.{Refusal}
+use Rattle.ft_cli.specs.declared.cursor.Refusal.TheVariants.{Other, NoMemory}
 use Rattle.ft_cli.specs.declared.form.Bound.{Bound}
 use Rattle.ft_cli.specs.declared.form.Guard.{Guard}
 use Rattle.ft_cli.specs.declared.form.Guard.TheVariants.{Always, Compare}
@@ -138,15 +140,6 @@ pub record IsGoodForm (f : Form) : Type 0 where
   pub rows : HaveRows f.rows
   pub names : IsTrue (all_differ (names_in f))
 
--- no name is longer than 40 bytes, and no number greater than 1,000,000,000
-abbrev pub is_short : Lexeme → Bool
-is_short (name bytes) = nat_le (length bytes) 40
-is_short (number value) = nat_le value 1000000000
-is_short (word bytes) = true
-is_short (sign bytes) = true
-is_short end = true
-is_short bad = true
-
 -- the bytes spell this set
 pub record SpellsForm (bytes : List ℕ) (f : Form) : Type 0 where
   pub tokens : List Token
@@ -154,3 +147,9 @@ pub record SpellsForm (bytes : List ℕ) (f : Form) : Type 0 where
   pub grammar : lexemes_of bytes tokens ≡ form_lexemes f
   pub limits : IsTrue (list_all (λ token. is_short (lexeme_of bytes token)) tokens)
   pub good : IsGoodForm f
+
+-- where the bytes spell this set: it is the one that is read, and only want of memory is in the way of that
+abbrev pub Reads : Result Form Refusal → Form → Type 0
+Reads (Ok g) f = g ≡ f
+Reads (Err Other) f = ⊥
+Reads (Err NoMemory) f = Unit {0}

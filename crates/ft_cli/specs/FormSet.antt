@@ -1,5 +1,6 @@
 -- The set that the grammar's parts stand for, and which bytes spell a set.
-use Rattle.std.specs.Prelude.{◌≡◌, ℕ, pos, List, [], ◌∷◌, map}
+use Rattle.std.specs.Prelude.{◌≡◌, ℕ, pos, Bool, true, nat_le, List, [], ◌∷◌, map, IsTrue}
+use Rattle.std.specs.List.{list_all}
 use Rattle.ft_core.specs.declared.tables.Tables.{Tables}
 use Rattle.ft_core.specs.declared.tables.Table.{Table}
 use Rattle.ft_core.specs.declared.tables.Var.{Var}
@@ -16,6 +17,7 @@ use Rattle.ft_core.specs.declared.term.Term.TheVariants.{Num, Now}
 use Rattle.ft_core.specs.declared.term.Cond.{Cond}
 use Rattle.ft_core.specs.declared.term.Cond.TheVariants as cond
 use Rattle.ft_cli.specs.Form.{bound_value, bounds_of, SpellsForm}
+use Rattle.ft_cli.specs.declared.form.Bound.{Bound}
 use Rattle.ft_cli.specs.declared.form.Guard.{Guard}
 use Rattle.ft_cli.specs.declared.form.Guard.TheVariants.{Always, Compare}
 use Rattle.ft_cli.specs.declared.form.Entry.{Entry}
@@ -53,6 +55,28 @@ abbrev pub tables_of : TableRows → List Table
 tables_of t =
     table_of section.In 2 0 t.input ∷ table_of section.Req 1 0 t.required ∷ table_of section.Sof 3 2 t.design ∷ table_of section.Out 1 3 t.output ∷ []
 
+-- a bound, the guard of a row and its entry have no number of more than 32 bits
+abbrev pub is_short_bound : Bound → Bool
+is_short_bound b = nat_le b.size 4294967295
+
+abbrev pub is_short_guard : Guard → Bool
+is_short_guard Always = true
+is_short_guard (Compare r b) = is_short_bound b
+
+abbrev pub is_short_entry : Entry → Bool
+is_short_entry (Number b) = is_short_bound b
+is_short_entry Read = true
+
+-- nor has any row of a table
+abbrev pub HaveShortNumbers : List Row → Type 0
+HaveShortNumbers rows = IsTrue (list_all (λ row. is_short_guard row.guard) rows) × IsTrue (list_all (λ row. is_short_entry row.entry) rows)
+
+pub record AreShort (t : TableRows) : Type 0 where
+  pub input : HaveShortNumbers t.input
+  pub required : HaveShortNumbers t.required
+  pub design : HaveShortNumbers t.design
+  pub output : HaveShortNumbers t.output
+
 -- the block takes the controlled variable and the output, and its goal is the controlled variable
 abbrev pub block_of : List ℕ → Block
 block_of name = record { name = name; takes = take.Variable 1 ∷ take.Variable 3 ∷ []; uses = []; facts = Goal 1 ∷ [] }
@@ -76,3 +100,7 @@ pub record Spells (bytes : List ℕ) (S : Tables) : Type 0 where
   pub form : Form
   pub spelled : SpellsForm bytes form
   pub is : IsSetOf form S
+
+-- bytes spell one set
+abbrev pub SpellsOneSet : Type 0
+SpellsOneSet = (bytes : List ℕ) (S T : Tables) → Spells bytes S → Spells bytes T → S ≡ T

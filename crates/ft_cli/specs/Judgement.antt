@@ -10,6 +10,11 @@ use Rattle.ft_mean.specs.Reading.{IsVar}
 use Rattle.ft_mean.specs.Allowed.{Allowed}
 use Rattle.ft_mean.specs.Proper.{IsProper, AllProper}
 use Rattle.ft_mean.specs.Refines.{Refines, FirstDiffers}
+use Rattle.ft_tree.specs.declared.tree.Tree.{Tree}
+use Rattle.ft_parse.specs.Parse as tree_spelling
+use Rattle.ft_parse.specs.Parse.{IsFault}
+use Rattle.ft_parse.specs.declared.stop.ParseFault.{ParseFault}
+use Rattle.ft_parse.specs.declared.stop.ParseFault.TheVariants as fault
 use Rattle.ft_cli.specs.FormSet.{Spells}
 use Rattle.ft_cli.specs.Report.{section_word}
 use Rattle.ft_cli.specs.declared.report.Report.{Report}
@@ -68,14 +73,39 @@ pub record IsRefuted (bytes : List ℕ) (S : Tables) (list : List (List ℤ)) (s
   pub one : length list ≡ 1
   pub first : scan ≡ 0
 
--- what a report of these bytes means; want of memory is free, and so is, for now, that a text isn't read
+-- what a report of these bytes means. `not built` says that they spell no set of the form; want of memory is free
 abbrev pub IsJudgement : List ℕ → Report → Type 0
 IsJudgement bytes (report.Verified S list) = IsVerified bytes S list
 IsJudgement bytes (report.Refuted S list scan) = IsRefuted bytes S list scan
 IsJudgement bytes (report.Improper title) = (S : Tables) × Spells bytes S × (HasPoints S → ⊥) × IsFirstImproper S title
 IsJudgement bytes report.Points = (S : Tables) × Spells bytes S × HasPoints S
-IsJudgement bytes report.Unbuilt = Unit {0}
+IsJudgement bytes report.Unbuilt = (S : Tables) → Spells bytes S → ⊥
 IsJudgement bytes report.NoMemory = Unit {0}
 IsJudgement bytes report.Usage = ⊥
 IsJudgement bytes report.ReadFault = ⊥
 IsJudgement bytes (report.TooLong which) = ⊥
+IsJudgement bytes (report.Refused fault) = ⊥
+IsJudgement bytes (report.Printed tree) = ⊥
+
+-- why bytes spell no tree
+abbrev pub IsRefusal : List ℕ → ParseFault → Type 0
+IsRefusal bytes (fault.Syntax place) = IsFault bytes (fault.Syntax place)
+IsRefusal bytes (fault.Limit which place) = IsFault bytes (fault.Limit which place)
+IsRefusal bytes fault.NoMemory = ⊥
+
+-- the bytes spell this tree, and no other
+pub record IsPrinted (bytes : List ℕ) (tree : Tree) : Type 0 where
+  pub spelled : tree_spelling.Spells bytes tree
+  pub alone : (other : Tree) → tree_spelling.Spells bytes other → tree ≡ other
+
+-- the bytes spell no tree, for this reason
+pub record IsUnread (bytes : List ℕ) (fault : ParseFault) : Type 0 where
+  pub refusal : IsRefusal bytes fault
+  pub none : (tree : Tree) → tree_spelling.Spells bytes tree → ⊥
+
+-- what a report on the tree that bytes spell means; want of memory is free
+abbrev pub IsPrint : List ℕ → Report → Type 0
+IsPrint bytes (report.Printed tree) = IsPrinted bytes tree
+IsPrint bytes (report.Refused fault) = IsUnread bytes fault
+IsPrint bytes report.NoMemory = Unit {0}
+IsPrint bytes _ = ⊥

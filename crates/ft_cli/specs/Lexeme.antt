@@ -1,9 +1,9 @@
 -- What the grammar sees of a token.
-use Rattle.std.specs.Prelude.{ℕ, ◌+◌, ◌*◌, ◌-◌, List, map, fold}
+use Rattle.std.specs.Prelude.{◌≡◌, ℕ, ◌+◌, ◌*◌, ◌-◌, Bool, true, List, [], ◌∷◌, map, fold, length, nat_le, IsTrue}
 use Rattle.ft_lex.specs.declared.token.Token.{Token}
 use Rattle.ft_lex.specs.declared.token.TokenKind.{TokenKind}
 use Rattle.ft_lex.specs.declared.token.TokenKind.TheVariants.{Name, Number, Word, Sign, End, Bad}
-use Rattle.ft_lex.specs.Tokens.{token_text}
+use Rattle.ft_lex.specs.Tokens.{LiesIn, token_text}
 
 -- a reserved word, a name, the value of a number, a sign, the text's end, or a byte that begins no token
 pub data Lexeme : Type 0 where
@@ -31,3 +31,22 @@ lexeme_of text token = lexeme_as token.kind (token_text text token)
 
 abbrev pub lexemes_of : List ℕ → List Token → List Lexeme
 lexemes_of text tokens = map (lexeme_of text) tokens
+
+-- this lexeme is the first
+abbrev pub Starts : Lexeme → List Lexeme → Type 0
+Starts lexeme [] = ⊥
+Starts lexeme (first ∷ rest) = first ≡ lexeme
+
+-- no name is longer than 40 bytes, and no number greater than 1,000,000,000
+abbrev pub is_short : Lexeme → Bool
+is_short (name bytes) = nat_le (length bytes) 40
+is_short (number value) = nat_le value 1000000000
+is_short (word bytes) = true
+is_short (sign bytes) = true
+is_short end = true
+is_short bad = true
+
+-- the token lies in the text and is no longer than the limits
+pub record IsAdmitted (text : List ℕ) (token : Token) : Type 0 where
+  pub lies : LiesIn text token
+  pub short : IsTrue (is_short (lexeme_of text token))

@@ -6,6 +6,12 @@ use Rattle.ft_core.specs.declared.tables.Tables.{Tables}
 use Rattle.ft_core.specs.declared.tables.Section.{Section}
 use Rattle.ft_core.specs.declared.tables.Section.TheVariants as section
 use Rattle.ft_core.specs.Kinds.{monitored}
+use Rattle.ft_base.specs.declared.place.Place.{Place}
+use Rattle.ft_parse.specs.declared.stop.LimitWord.{LimitWord}
+use Rattle.ft_parse.specs.declared.stop.LimitWord.TheVariants as limit
+use Rattle.ft_parse.specs.declared.stop.ParseFault.{ParseFault}
+use Rattle.ft_parse.specs.declared.stop.ParseFault.TheVariants as fault
+use Rattle.ft_tree.specs.Canonical.{canonical}
 use Rattle.ft_cli.specs.declared.report.Which.{Which}
 use Rattle.ft_cli.specs.declared.report.Which.TheVariants.{Set}
 use Rattle.ft_cli.specs.declared.report.Report.{Report}
@@ -39,11 +45,40 @@ section_word section.Out = codes "out"
 abbrev pub which_word : Which → List ℕ
 which_word Set = codes "set"
 
+-- LINE:COLUMN
+abbrev pub place_text : Place → List ℕ
+place_text place = decimal place.line ++ codes ":" ++ decimal place.column
+
+abbrev pub limit_word : LimitWord → List ℕ
+limit_word limit.Name = codes "name"
+limit_word limit.Number = codes "number"
+limit_word limit.Constants = codes "constants"
+limit_word limit.Types = codes "types"
+limit_word limit.Members = codes "members"
+limit_word limit.Variables = codes "variables"
+limit_word limit.Memories = codes "memories"
+limit_word limit.Nat = codes "nat"
+limit_word limit.Tables = codes "tables"
+limit_word limit.Rows = codes "rows"
+limit_word limit.Columns = codes "columns"
+limit_word limit.Blocks = codes "blocks"
+limit_word limit.Facts = codes "facts"
+limit_word limit.List = codes "list"
+limit_word limit.Expression = codes "expression"
+limit_word limit.Nesting = codes "nesting"
+
+abbrev pub fault_text : ParseFault → List ℕ
+fault_text (fault.Syntax place) = codes "Syntax at " ++ place_text place
+fault_text (fault.Limit which place) = codes "Limit " ++ limit_word which ++ codes " at " ++ place_text place
+fault_text fault.NoMemory = codes "no memory"
+
 abbrev pub text_of : Report → List ℕ
-text_of report.Usage = line (codes "usage: ftv verify F")
+text_of report.Usage = line (codes "usage: ftv verify F, print F")
 text_of report.ReadFault = line (codes "read fault")
 text_of (report.TooLong which) = line (codes "too long: " ++ which_word which)
 text_of report.NoMemory = line (codes "no memory")
+text_of (report.Refused fault) = line (codes "refused") ++ line (fault_text fault)
+text_of (report.Printed tree) = canonical tree
 text_of report.Unbuilt = line (codes "refused") ++ line (codes "not built")
 text_of report.Points = line (codes "open") ++ line (codes "points")
 text_of (report.Improper title) = line (codes "refused") ++ line (codes "Improper " ++ title)
@@ -56,7 +91,9 @@ text_of (report.Refuted S list scan) =
 abbrev pub status_of : Report → ℕ
 status_of (report.Verified S list) = 0
 status_of (report.Refuted S list scan) = 1
+status_of (report.Printed tree) = 0
 status_of report.Points = 2
+status_of (report.Refused fault) = 3
 status_of report.Unbuilt = 3
 status_of (report.Improper title) = 3
 status_of report.Usage = 4

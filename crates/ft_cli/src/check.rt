@@ -45,7 +45,7 @@ fn do_differ(names: &[&[u8]]) -> bool
 }
 
 fn are_good_variables(variables: &Variables) -> bool
-    ensures { IsTrue result → AreGoodVariables variables.now }
+    ensures { IsTrue result ↔ AreGoodVariables variables.now }
 {
     is_good_variable(&variables.monitored)
         && is_good_variable(&variables.controlled)
@@ -54,7 +54,7 @@ fn are_good_variables(variables: &Variables) -> bool
 }
 
 fn have_rows(rows: &TableRows) -> bool
-    ensures { IsTrue result → HaveRows rows.now }
+    ensures { IsTrue result ↔ HaveRows rows.now }
 {
     has_rows(rows.input.as_slice())
         && has_rows(rows.required.as_slice())
@@ -77,7 +77,7 @@ fn names_differ(form: &Form) -> bool
 
 /// Whether a set of the form is within its limits, with five different names.
 pub fn is_good(form: &Form) -> bool
-    ensures { IsTrue result → IsGoodForm form.now }
+    ensures { IsTrue result ↔ IsGoodForm form.now }
 {
     if form.period < 1 || form.period > 10_000 {
         return false;

@@ -1,7 +1,6 @@
-ghost use Rattle.std.specs.Prelude.{◌≡◌, ◌≤◌, ◌↔◌, ◌∷◌, ℕ, List, [], length, IsTrue, IfOk, OnOk, OnErr, IfSome};
+ghost use Rattle.std.specs.Prelude.{◌≡◌, ◌≤◌, ◌<◌, ◌↔◌, ◌∷◌, ℕ, List, [], IsTrue, IfOk, OnOk, OnErr, IfSome, IfNone};
 ghost use Rattle.std.specs.List.{All};
-ghost use Rattle.ft_lex.specs.Tokens.{LiesIn};
-ghost use Rattle.ft_cli.specs.Lexeme.{decimal, lexeme_of, lexemes_of, word, name, number, sign, end};
+ghost use Rattle.ft_cli.specs.Lexeme.{Starts, IsAdmitted, decimal, lexemes_of, word, name, number, sign, end};
 
 use ft_base::{List, NoMemory, Text};
 use ft_lex::{Token, TokenKind};
@@ -17,7 +16,9 @@ pub enum Refusal {
 }
 
 impl From<NoMemory> for Refusal {
-    ghost from_gives = { λ _ _. Unit {0} };
+    ghost use Rattle.ft_cli.specs.declared.cursor.Refusal.TheVariants.{NoMemory};
+
+    ghost from_gives = { λ _ refusal. refusal ≡ NoMemory };
 
     fn from(_refused: NoMemory) -> Refusal {
         Refusal::NoMemory
@@ -34,21 +35,21 @@ pub struct Cursor<'t> {
 impl<'t> Model for Cursor<'t> {
     ghost use Rattle.std.specs.Prelude.{List};
     ghost use Rattle.std.specs.List.{All};
-    ghost use Rattle.ft_lex.specs.Tokens.{LiesIn};
-    ghost use Rattle.ft_cli.specs.Lexeme.{Lexeme, lexemes_of};
+    ghost use Rattle.ft_cli.specs.Lexeme.{IsAdmitted, Lexeme, lexemes_of};
 
     ghost Value = { List Lexeme };
 
     ghost view = { λ cursor. lexemes_of cursor.text.now cursor.rest.now };
 
-    ghost invariant = { λ cursor. All (LiesIn cursor.text.now) cursor.rest.now };
+    ghost invariant = { λ cursor. All (IsAdmitted cursor.text.now) cursor.rest.now };
 }
 
 const GREATEST: u32 = 1_000_000_000;
 
 /// The value of decimal digits, where it is at most 1,000,000,000.
 pub fn number_of(digits: &[u8]) -> Option<u32>
-    ensures { IfSome result (λ value. (value ≡ decimal digits.now) × (value ≤ 1000000000)) }
+    ensures some { IfSome result (λ value. (value ≡ decimal digits.now) × (value ≤ 1000000000)) }
+    ensures none { IfNone result (1000000000 < decimal digits.now) }
 {
     let mut value: u32 = 0;
     for digit in digits {
@@ -63,8 +64,9 @@ pub fn number_of(digits: &[u8]) -> Option<u32>
 /// The first token, and those after it.
 fn next(tokens: &[Token]) -> Option<(Token, &[Token])>
     ensures parts { IfSome result (λ found. tokens.now ≡ found.0 ∷ found.1.now) }
-    ensures rest_lies { IfSome result (λ found. (text : List ℕ) → All (LiesIn text) tokens.now → All (LiesIn text) found.1.now) }
-    ensures first_lies { IfSome result (λ found. (text : List ℕ) → All (LiesIn text) tokens.now → LiesIn text found.0) }
+    ensures none { IfNone result (tokens.now ≡ []) }
+    ensures rest_admitted { IfSome result (λ found. (text : List ℕ) → All (IsAdmitted text) tokens.now → All (IsAdmitted text) found.1.now) }
+    ensures first_admitted { IfSome result (λ found. (text : List ℕ) → All (IsAdmitted text) tokens.now → IsAdmitted text found.0) }
 {
     let (token, rest) = tokens.split_first()?;
     Some((*token, rest))
@@ -73,14 +75,16 @@ fn next(tokens: &[Token]) -> Option<(Token, &[Token])>
 impl<'t> Cursor<'t> {
     /// All of a text, whose tokens these are.
     pub fn new(text: &'t [u8], tokens: &'t [Token]) -> Cursor<'t>
-        requires { All (LiesIn text.now) tokens.now }
+        requires { All (IsAdmitted text.now) tokens.now }
         ensures { result ≡ lexemes_of text.now tokens.now }
     {
         Cursor { text, rest: tokens }
     }
 
     /// Whether this word is next.
-    pub fn is_at_word(&self, expected: &[u8]) -> bool {
+    pub fn is_at_word(&self, expected: &[u8]) -> bool
+        ensures { IsTrue result ↔ Starts (word expected.now) self.now }
+    {
         match next(self.rest) {
             Some((token, _)) => token.is_word(self.text, expected),
             None => false,
@@ -92,6 +96,7 @@ impl<'t> Cursor<'t> {
     pub fn word(&mut self, expected: &[u8]) -> Result<(), Refusal>
         ensures ok { OnOk result (self.old ≡ word expected.now ∷ self.new) }
         ensures err { OnErr result (self.new ≡ self.old) }
+        ensures only { OnErr result (Starts (word expected.now) self.old → ⊥) }
     {
         match next(self.rest) {
             Some((token, rest)) if token.is_word(self.text, expected) => {
@@ -106,6 +111,7 @@ impl<'t> Cursor<'t> {
     pub fn sign(&mut self, expected: &[u8]) -> Result<(), Refusal>
         ensures ok { OnOk result (self.old ≡ sign expected.now ∷ self.new) }
         ensures err { OnErr result (self.new ≡ self.old) }
+        ensures only { OnErr result (Starts (sign expected.now) self.old → ⊥) }
     {
         match next(self.rest) {
             Some((token, rest)) if token.is_sign(self.text, expected) => {
@@ -120,6 +126,7 @@ impl<'t> Cursor<'t> {
     pub fn name(&mut self) -> Result<&'t [u8], Refusal>
         ensures ok { IfOk result (λ found. self.old ≡ name found.now ∷ self.new) }
         ensures err { OnErr result (self.new ≡ self.old) }
+        ensures only { OnErr result ((found : List ℕ) → Starts (name found) self.old → ⊥) }
     {
         match next(self.rest) {
             Some((token, rest)) if token.kind == TokenKind::Name => {
@@ -134,6 +141,7 @@ impl<'t> Cursor<'t> {
     /// Goes past a number of at most 1,000,000,000, and gives it.
     pub fn number(&mut self) -> Result<u32, Refusal>
         ensures ok { IfOk result (λ value. self.old ≡ number value ∷ self.new) }
+        ensures only { OnErr result ((value : ℕ) → Starts (number value) self.old → ⊥) }
     {
         match next(self.rest) {
             Some((token, rest)) if token.kind == TokenKind::Number => {
@@ -147,7 +155,7 @@ impl<'t> Cursor<'t> {
 
     /// Whether nothing but the end is left.
     pub fn is_at_end(&self) -> bool
-        ensures { IsTrue result → self.now ≡ end ∷ [] }
+        ensures { IsTrue result ↔ (self.now ≡ end ∷ []) }
     {
         match next(self.rest) {
             Some((token, rest)) => token.kind == TokenKind::End && rest.is_empty(),

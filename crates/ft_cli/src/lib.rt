@@ -6,6 +6,7 @@ mod cursor;
 mod ended;
 mod form;
 mod judging;
+mod law;
 mod reader;
 mod rendering;
 mod report;
@@ -16,6 +17,7 @@ mod verdict;
 
 pub use ended::Ended;
 pub use judging::judge;
+pub use law::one_set;
 pub use rendering::report_text;
 pub use report::{Report, Which};
 pub use top::{file_words, run};

@@ -1,8 +1,18 @@
-ghost use Rattle.std.specs.Prelude.{◌≡◌, ◌∷◌, ◌<◌, ◌-◌, ◌^◌, List, codes, length, IsTrue, IfOk, OnOk};
+ghost use Rattle.std.specs.Prelude.{◌≡◌, ◌∷◌, ◌<◌, ◌-◌, ◌^◌, ℕ, List, codes, length, IfOk, OnOk, IsOkUnless};
 ghost use Rattle.std.specs.List.{All, list_all};
 ghost use Rattle.ft_lex.specs.Tokens.{LiesIn, IsTokens};
-ghost use Rattle.ft_cli.specs.Lexeme.{word, name, number, sign, end, lexeme_of};
-ghost use Rattle.ft_cli.specs.Form.{bound_lexemes, rel_sign, guard_lexemes, entry_lexemes, row_lexemes, rows_lexemes, table_lexemes, variable_lexemes, head_lexemes, block_lexemes, variables_lexemes, tables_lexemes, form_lexemes, is_short, SpellsForm};
+ghost use Rattle.ft_lex.specs.declared.token.Token.{Token};
+ghost use Rattle.ft_core.specs.declared.term.Rel.{Rel};
+ghost use Rattle.ft_cli.specs.declared.form.Bound.{Bound};
+ghost use Rattle.ft_cli.specs.declared.form.Guard.{Guard};
+ghost use Rattle.ft_cli.specs.declared.form.Entry.{Entry};
+ghost use Rattle.ft_cli.specs.declared.form.Row.{Row};
+ghost use Rattle.ft_cli.specs.declared.form.Variable.{Variable};
+ghost use Rattle.ft_cli.specs.declared.form.Variables.{Variables};
+ghost use Rattle.ft_cli.specs.declared.form.TableRows.{TableRows};
+ghost use Rattle.ft_cli.specs.declared.form.Form.{Form};
+ghost use Rattle.ft_cli.specs.Lexeme.{Lexeme, Starts, word, name, number, sign, is_short, lexeme_of};
+ghost use Rattle.ft_cli.specs.Form.{bound_lexemes, rel_sign, guard_lexemes, entry_lexemes, row_lexemes, rows_lexemes, table_lexemes, variable_lexemes, head_lexemes, block_lexemes, variables_lexemes, tables_lexemes, form_lexemes, Reads, SpellsForm};
 
 use crate::check::is_good;
 use crate::cursor::{Cursor, Refusal, number_of};
@@ -14,7 +24,8 @@ use std::alloc::Global;
 
 /// A number with an optional minus.
 fn bound(cursor: &mut Cursor) -> Result<Bound, Refusal>
-    ensures { IfOk result (λ b. cursor.old ≡ bound_lexemes b cursor.new) }
+    ensures spelled { IfOk result (λ b. cursor.old ≡ bound_lexemes b cursor.new) }
+    ensures only { (b : Bound) (rest : List Lexeme) → cursor.old ≡ bound_lexemes b rest → IsOkUnless result Refusal.NoMemory }
 {
     let minus = cursor.sign(b"-").is_ok();
     let size = cursor.number()?;
@@ -23,7 +34,8 @@ fn bound(cursor: &mut Cursor) -> Result<Bound, Refusal>
 
 /// A sign that compares.
 fn relation(cursor: &mut Cursor) -> Result<Rel, Refusal>
-    ensures { IfOk result (λ r. cursor.old ≡ sign (rel_sign r) ∷ cursor.new) }
+    ensures spelled { IfOk result (λ r. cursor.old ≡ sign (rel_sign r) ∷ cursor.new) }
+    ensures only { (r : Rel) → Starts (sign (rel_sign r)) cursor.old → IsOkUnless result Refusal.NoMemory }
 {
     if cursor.sign(b"=").is_ok() {
         return Ok(Rel::Eq);
@@ -46,7 +58,8 @@ fn relation(cursor: &mut Cursor) -> Result<Rel, Refusal>
 
 /// This very name.
 fn known_name(cursor: &mut Cursor, expected: &[u8]) -> Result<(), Refusal>
-    ensures { OnOk result (cursor.old ≡ name expected.now ∷ cursor.new) }
+    ensures spelled { OnOk result (cursor.old ≡ name expected.now ∷ cursor.new) }
+    ensures only { Starts (name expected.now) cursor.old → IsOkUnless result Refusal.NoMemory }
 {
     let found = cursor.name()?;
     if found == expected {
@@ -57,7 +70,8 @@ fn known_name(cursor: &mut Cursor, expected: &[u8]) -> Result<(), Refusal>
 }
 
 fn guard(cursor: &mut Cursor, read: &[u8]) -> Result<Guard, Refusal>
-    ensures { IfOk result (λ g. cursor.old ≡ guard_lexemes read.now g cursor.new) }
+    ensures spelled { IfOk result (λ g. cursor.old ≡ guard_lexemes read.now g cursor.new) }
+    ensures only { (g : Guard) (rest : List Lexeme) → cursor.old ≡ guard_lexemes read.now g rest → IsOkUnless result Refusal.NoMemory }
 {
     if cursor.word(b"true").is_ok() {
         return Ok(Guard::Always);
@@ -69,7 +83,8 @@ fn guard(cursor: &mut Cursor, read: &[u8]) -> Result<Guard, Refusal>
 }
 
 fn entry(cursor: &mut Cursor, read: &[u8]) -> Result<Entry, Refusal>
-    ensures { IfOk result (λ e. cursor.old ≡ entry_lexemes read.now e cursor.new) }
+    ensures spelled { IfOk result (λ e. cursor.old ≡ entry_lexemes read.now e cursor.new) }
+    ensures only { (e : Entry) (rest : List Lexeme) → cursor.old ≡ entry_lexemes read.now e rest → IsOkUnless result Refusal.NoMemory }
 {
     match cursor.name() {
         Ok(found) => {
@@ -84,7 +99,8 @@ fn entry(cursor: &mut Cursor, read: &[u8]) -> Result<Entry, Refusal>
 }
 
 fn row(cursor: &mut Cursor, read: &[u8]) -> Result<Row, Refusal>
-    ensures { IfOk result (λ r. cursor.old ≡ row_lexemes read.now r cursor.new) }
+    ensures spelled { IfOk result (λ r. cursor.old ≡ row_lexemes read.now r cursor.new) }
+    ensures only { (r : Row) (rest : List Lexeme) → cursor.old ≡ row_lexemes read.now r rest → IsOkUnless result Refusal.NoMemory }
 {
     cursor.word(b"row")?;
     let guard = guard(cursor, read)?;
@@ -95,7 +111,9 @@ fn row(cursor: &mut Cursor, read: &[u8]) -> Result<Row, Refusal>
 }
 
 fn rows(alloc: Global, cursor: &mut Cursor, read: &[u8]) -> Result<List<Row>, Refusal>
-    ensures { IfOk result (λ found. cursor.old ≡ rows_lexemes read.now found cursor.new) }
+    ensures spelled { IfOk result (λ found. cursor.old ≡ rows_lexemes read.now found cursor.new) }
+    ensures all { OnOk result (Starts (word (codes "row")) cursor.new → ⊥) }
+    ensures only { (found : List Row) (rest : List Lexeme) → cursor.old ≡ rows_lexemes read.now found (sign (codes "}") ∷ rest) → IsOkUnless result Refusal.NoMemory }
 {
     let mut found = List::new(alloc);
     while cursor.is_at_word(b"row") {
@@ -114,7 +132,8 @@ fn table(
     target: &[u8],
     read: &[u8],
 ) -> Result<List<Row>, Refusal>
-    ensures { IfOk result (λ found. cursor.old ≡ table_lexemes section.now target.now read.now found cursor.new) }
+    ensures spelled { IfOk result (λ found. cursor.old ≡ table_lexemes section.now target.now read.now found cursor.new) }
+    ensures only { (found : List Row) (rest : List Lexeme) → cursor.old ≡ table_lexemes section.now target.now read.now found rest → IsOkUnless result Refusal.NoMemory }
 {
     cursor.word(section)?;
     cursor.word(b"normal")?;
@@ -131,7 +150,8 @@ fn table(
 /// A variable of a kind.
 #[tactic(auto, unfolding(crate::specs::Form::variable_lexemes))]
 fn variable(alloc: Global, cursor: &mut Cursor, kind: &[u8]) -> Result<Variable, Refusal>
-    ensures { IfOk result (λ v. cursor.old ≡ variable_lexemes kind.now v cursor.new) }
+    ensures spelled { IfOk result (λ v. cursor.old ≡ variable_lexemes kind.now v cursor.new) }
+    ensures only { (v : Variable) (rest : List Lexeme) → cursor.old ≡ variable_lexemes kind.now v rest → IsOkUnless result Refusal.NoMemory }
 {
     cursor.word(kind)?;
     let name = List::copy_of(alloc, cursor.name()?)?;
@@ -148,7 +168,8 @@ fn variable(alloc: Global, cursor: &mut Cursor, kind: &[u8]) -> Result<Variable,
 /// The set's name and its period.
 #[tactic(auto, unfolding(crate::specs::Form::head_lexemes))]
 fn head(alloc: Global, cursor: &mut Cursor) -> Result<(Text, u32), Refusal>
-    ensures { IfOk result (λ h. cursor.old ≡ head_lexemes h.0 h.1 cursor.new) }
+    ensures spelled { IfOk result (λ h. cursor.old ≡ head_lexemes h.0 h.1 cursor.new) }
+    ensures only { (set : List ℕ) (period : ℕ) (rest : List Lexeme) → cursor.old ≡ head_lexemes set period rest → IsOkUnless result Refusal.NoMemory }
 {
     cursor.word(b"set")?;
     let name = List::copy_of(alloc, cursor.name()?)?;
@@ -168,7 +189,8 @@ fn block(
     controlled: &[u8],
     output: &[u8],
 ) -> Result<Text, Refusal>
-    ensures { IfOk result (λ found. cursor.old ≡ block_lexemes found controlled.now output.now cursor.new) }
+    ensures spelled { IfOk result (λ found. cursor.old ≡ block_lexemes found controlled.now output.now cursor.new) }
+    ensures only { (found : List ℕ) (rest : List Lexeme) → cursor.old ≡ block_lexemes found controlled.now output.now rest → IsOkUnless result Refusal.NoMemory }
 {
     cursor.word(b"block")?;
     let found = List::copy_of(alloc, cursor.name()?)?;
@@ -188,7 +210,8 @@ fn block(
 /// The four variables.
 #[tactic(auto, unfolding(crate::specs::Form::variables_lexemes))]
 fn variables(alloc: Global, cursor: &mut Cursor) -> Result<Variables, Refusal>
-    ensures { IfOk result (λ v. cursor.old ≡ variables_lexemes v cursor.new) }
+    ensures spelled { IfOk result (λ v. cursor.old ≡ variables_lexemes v cursor.new) }
+    ensures only { (v : Variables) (rest : List Lexeme) → cursor.old ≡ variables_lexemes v rest → IsOkUnless result Refusal.NoMemory }
 {
     let monitored = variable(alloc, cursor, b"mon")?;
     let controlled = variable(alloc, cursor, b"con")?;
@@ -205,7 +228,8 @@ fn variables(alloc: Global, cursor: &mut Cursor) -> Result<Variables, Refusal>
 /// The four tables.
 #[tactic(auto, unfolding(crate::specs::Form::tables_lexemes))]
 fn tables(alloc: Global, cursor: &mut Cursor, variables: &Variables) -> Result<TableRows, Refusal>
-    ensures { IfOk result (λ t. cursor.old ≡ tables_lexemes variables.now t cursor.new) }
+    ensures spelled { IfOk result (λ t. cursor.old ≡ tables_lexemes variables.now t cursor.new) }
+    ensures only { (t : TableRows) (rest : List Lexeme) → cursor.old ≡ tables_lexemes variables.now t rest → IsOkUnless result Refusal.NoMemory }
 {
     let monitored = variables.monitored.name.as_slice();
     let controlled = variables.controlled.name.as_slice();
@@ -221,7 +245,8 @@ fn tables(alloc: Global, cursor: &mut Cursor, variables: &Variables) -> Result<T
 
 /// All of a set.
 fn form(alloc: Global, cursor: &mut Cursor) -> Result<Form, Refusal>
-    ensures { IfOk result (λ f. cursor.old ≡ form_lexemes f) }
+    ensures spelled { IfOk result (λ f. cursor.old ≡ form_lexemes f) }
+    ensures only { (f : Form) → cursor.old ≡ form_lexemes f → IsOkUnless result Refusal.NoMemory }
 {
     let (name, period) = head(alloc, cursor)?;
     let variables = variables(alloc, cursor)?;
@@ -244,7 +269,7 @@ fn form(alloc: Global, cursor: &mut Cursor) -> Result<Form, Refusal>
 /// Whether a token is no name longer than 40 bytes, and no number greater than 1,000,000,000.
 fn is_short(text: &[u8], token: &Token) -> bool
     requires { LiesIn text.now token.now }
-    ensures { IsTrue result → IsTrue (is_short (lexeme_of text.now token.now)) }
+    ensures { result ≡ is_short (lexeme_of text.now token.now) }
 {
     let bytes = token.text(text);
     match token.kind {
@@ -257,7 +282,7 @@ fn is_short(text: &[u8], token: &Token) -> bool
 /// Whether all tokens are so.
 fn are_short(text: &[u8], tokens: &[Token]) -> bool
     requires { All (LiesIn text.now) tokens.now }
-    ensures { IsTrue result → IsTrue (list_all (λ token. is_short (lexeme_of text.now token)) tokens.now) }
+    ensures { result ≡ list_all (λ token. is_short (lexeme_of text.now token)) tokens.now }
 {
     for token in tokens {
         if !is_short(text, token) {
@@ -271,7 +296,9 @@ fn are_short(text: &[u8], tokens: &[Token]) -> bool
 fn from_tokens(alloc: Global, text: &[u8], tokens: &[Token]) -> Result<Form, Refusal>
     requires lies { All (LiesIn text.now) tokens.now }
     requires tokens { IsTokens text.now tokens.now }
-    ensures { IfOk result (SpellsForm text.now) }
+    requires only { (others : List Token) → IsTokens text.now others → others ≡ tokens.now }
+    ensures spelled { IfOk result (SpellsForm text.now) }
+    ensures only { (f : Form) → SpellsForm text.now f → IsOkUnless result Refusal.NoMemory }
 {
     if !are_short(text, tokens) {
         return Err(Refusal::Other);
@@ -285,10 +312,11 @@ fn from_tokens(alloc: Global, text: &[u8], tokens: &[Token]) -> Result<Form, Ref
     }
 }
 
-/// The set that a text spells. The text is shorter than 2^32 - 1 bytes.
+/// The set that a text spells, refused as `Other` only where it spells none. The text is shorter than 2^32 - 1 bytes.
 pub fn read_form(alloc: Global, text: &[u8]) -> Result<Form, Refusal>
     requires { length text.now < 2 ^ 32 - 1 }
-    ensures { IfOk result (SpellsForm text.now) }
+    ensures spelled { IfOk result (SpellsForm text.now) }
+    ensures only { (f : Form) → SpellsForm text.now f → Reads result f }
 {
     let tokens = tokens(alloc, text)?;
     from_tokens(alloc, text, tokens.as_slice())

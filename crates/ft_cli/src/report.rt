@@ -1,5 +1,7 @@
 use ft_base::Text;
 use ft_core::{History, Tables};
+use ft_parse::ParseFault;
+use ft_tree::Tree;
 
 /// Which file a report speaks of.
 #[derive(Clone, Copy, Debug, PartialEq, Eq, Drop)]
@@ -19,6 +21,10 @@ pub enum Report {
     TooLong(Which),
     /// Memory was refused.
     NoMemory,
+    /// The text spells no tree of a set within the limits.
+    Refused(ParseFault),
+    /// The tree that the text spells.
+    Printed(Tree),
     /// The text is no set that this version judges.
     Unbuilt,
     /// A range has more values than are tried.

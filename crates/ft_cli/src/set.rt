@@ -1,8 +1,9 @@
-ghost use Rattle.std.specs.Prelude.{◌≡◌, [], ◌∷◌, map, IfOk, pos};
-ghost use Rattle.ft_cli.specs.Form.{IsGoodForm, IsGoodVariable};
-ghost use Rattle.ft_cli.specs.FormSet.{IsSetOf, block_of, cond_of, table_of, tables_of, term_of, var_of, vars_of};
+ghost use Rattle.std.specs.Prelude.{◌≡◌, [], ◌∷◌, map, IfOk, IsTrue, pos};
+ghost use Rattle.std.specs.List.{list_all};
+ghost use Rattle.ft_cli.specs.Form.{IsGoodForm, IsGoodVariable, bound_value};
+ghost use Rattle.ft_cli.specs.FormSet.{IsSetOf, AreShort, HaveShortNumbers, block_of, cond_of, is_short_bound, is_short_entry, is_short_guard, table_of, tables_of, term_of, var_of, vars_of};
 
-use crate::form::{Entry, Form, Guard, Row, TableRows, Variable, Variables};
+use crate::form::{Bound, Entry, Form, Guard, Row, TableRows, Variable, Variables};
 use ft_base::{Duplicate, List, NoMemory, Range, Text};
 use ft_core::{Block, Cond, Fact, Grid, Section, Table, Tables, Take, Term, Var, VarKind};
 use std::alloc::Global;
@@ -25,31 +26,43 @@ fn checked_variable(alloc: Global, kind: VarKind, variable: Variable) -> Result<
     }
 }
 
+/// The number of a bound. Its size has 32 bits.
+fn number(bound: Bound) -> i64
+    ensures value { result ≡ bound_value bound }
+    ensures short { IsTrue (is_short_bound bound) }
+{
+    let _size = bound.size;
+    bound.value()
+}
+
 /// The condition of a row of a table that reads this variable.
 fn condition(read: u32, guard: Guard) -> Cond
-    ensures { result ≡ cond_of read guard }
+    ensures value { result ≡ cond_of read guard }
+    ensures short { IsTrue (is_short_guard guard) }
 {
     match guard {
         Guard::Always => Cond::Yes,
         Guard::Compare(relation, bound) => {
-            Cond::Compare(relation, Term::Now(read), Term::Num(bound.value()))
+            Cond::Compare(relation, Term::Now(read), Term::Num(number(bound)))
         }
     }
 }
 
 /// The term of a row of a table that reads this variable.
 fn term(read: u32, entry: Entry) -> Term
-    ensures { result ≡ term_of read entry }
+    ensures value { result ≡ term_of read entry }
+    ensures short { IsTrue (is_short_entry entry) }
 {
     match entry {
-        Entry::Number(bound) => Term::Num(bound.value()),
+        Entry::Number(bound) => Term::Num(number(bound)),
         Entry::Read => Term::Now(read),
     }
 }
 
 /// The conditions of all rows.
 fn conditions(alloc: Global, read: u32, rows: &[Row]) -> Result<List<Cond>, NoMemory>
-    ensures { IfOk result (λ conds. conds ≡ map (λ row. cond_of read row.guard) rows.now) }
+    ensures value { IfOk result (λ conds. conds ≡ map (λ row. cond_of read row.guard) rows.now) }
+    ensures short { IfOk result (λ conds. IsTrue (list_all (λ row. is_short_guard row.guard) rows.now)) }
 {
     let mut conds = List::new(alloc);
     for row in rows {
@@ -60,7 +73,8 @@ fn conditions(alloc: Global, read: u32, rows: &[Row]) -> Result<List<Cond>, NoMe
 
 /// The one entry of a row.
 fn entries(alloc: Global, read: u32, row: &Row) -> Result<List<Term>, NoMemory>
-    ensures { IfOk result (λ terms. terms ≡ term_of read row.now.entry ∷ []) }
+    ensures value { IfOk result (λ terms. terms ≡ term_of read row.now.entry ∷ []) }
+    ensures short { IfOk result (λ terms. IsTrue (is_short_entry row.now.entry)) }
 {
     let mut terms = List::new(alloc);
     terms.push(term(read, row.entry))?;
@@ -69,7 +83,8 @@ fn entries(alloc: Global, read: u32, row: &Row) -> Result<List<Term>, NoMemory>
 
 /// The entries of all rows.
 fn terms(alloc: Global, read: u32, rows: &[Row]) -> Result<List<List<Term>>, NoMemory>
-    ensures { IfOk result (λ terms. terms ≡ map (λ row. term_of read row.entry ∷ []) rows.now) }
+    ensures value { IfOk result (λ terms. terms ≡ map (λ row. term_of read row.entry ∷ []) rows.now) }
+    ensures short { IfOk result (λ terms. IsTrue (list_all (λ row. is_short_entry row.entry) rows.now)) }
 {
     let mut terms = List::new(alloc);
     for row in rows {
@@ -86,7 +101,8 @@ fn table(
     read: u32,
     rows: &[Row],
 ) -> Result<Table, NoMemory>
-    ensures { IfOk result (λ t. t ≡ table_of section target read rows.now) }
+    ensures value { IfOk result (λ t. t ≡ table_of section target read rows.now) }
+    ensures short { IfOk result (λ t. HaveShortNumbers rows.now) }
 {
     let mut columns = List::new(alloc);
     columns.push(Cond::Yes)?;
@@ -104,7 +120,8 @@ fn table(
 }
 
 fn tables(alloc: Global, rows: &TableRows) -> Result<List<Table>, NoMemory>
-    ensures { IfOk result (λ ts. ts ≡ tables_of rows.now) }
+    ensures value { IfOk result (λ ts. ts ≡ tables_of rows.now) }
+    ensures short { IfOk result (λ ts. AreShort rows.now) }
 {
     let mut tables = List::new(alloc);
     tables.push(table(alloc, Section::In, 2, 0, rows.input.as_slice())?)?;

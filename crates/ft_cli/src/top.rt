@@ -1,14 +1,16 @@
-ghost use Rattle.std.specs.Prelude.{◌≡◌, ◌⊎◌, Some, List, ℕ, drop, map, string_bytes};
+ghost use Rattle.std.specs.Prelude.{◌≡◌, ◌⊎◌, ◌<◌, ◌-◌, ◌^◌, Some, List, ℕ, drop, length, map, string_bytes};
 ghost use Rattle.std.specs.Option.{option_copied};
 ghost use Rattle.std.specs.List.{Contains};
 ghost use Rattle.ft_cli.specs.Report.{text_of};
-ghost use Rattle.ft_cli.specs.Top.{set_file, NamesKnown, IsFileOutcome, IsOutcome, HasStatus, Writes, HasHeadline};
+ghost use Rattle.ft_cli.specs.Judgement.{IsPrint};
+ghost use Rattle.ft_cli.specs.Top.{file_after, set_file, print_file, IsPrintOutcome, PrintsAll, NamesKnown, IsFileOutcome, IsOutcome, HasStatus, Writes, HasHeadline, IsComplete};
 
 use crate::ended::Ended;
 use crate::judging::judge;
 use crate::rendering::{report_text, status_for};
 use crate::report::{Report, Which};
 use ft_base::NoMemory;
+use ft_parse::{ParseFault, parse};
 use ft_port::{Failed, FetchError, Shelf, Sink, fetch};
 use std::alloc::Global;
 
@@ -18,12 +20,12 @@ mod tests;
 /// The longest file of a set, in bytes.
 const SET_LIMIT: u64 = 4_194_304;
 
-/// The file F of the words `verify F`.
-fn file_of(words: &[String]) -> Option<&str>
-    ensures { option_copied result ≡ set_file (map string_bytes words.now) }
+/// The file F of two words, of which the first is this command.
+fn file_after<'w>(words: &'w [String], command: &str) -> Option<&'w str>
+    ensures { option_copied result ≡ file_after command.now (map string_bytes words.now) }
 {
     match words {
-        [command, name] => (command.as_str() == "verify").then_some(name.as_str()),
+        [first, name] => (first.as_str() == command).then_some(name.as_str()),
         _ => None,
     }
 }
@@ -55,15 +57,48 @@ fn report_on_file<S: Shelf>(alloc: Global, name: &str, shelf: &mut S) -> Report
     }
 }
 
-/// What the words ask for.
-fn report_on<S: Shelf>(alloc: Global, words: &[String], shelf: &mut S) -> Report
-    requires { NamesKnown (map string_bytes words.now) (S.names shelf.old) }
-    ensures outcome { IsOutcome (set_file (map string_bytes words.now)) (S.told shelf.old) (S.faults shelf.old) (S.faults shelf.new) (S.reach shelf.new) result }
+/// The tree that a text spells, or why it spells none. The text is shorter than 2^32 - 1 bytes.
+fn print(alloc: Global, text: &[u8]) -> Report
+    requires { length text.now < 2 ^ 32 - 1 }
+    ensures { IsPrint text.now result }
+{
+    match parse(alloc, text) {
+        Ok(tree) => Report::Printed(tree),
+        Err(ParseFault::Syntax { place }) => Report::Refused(ParseFault::Syntax { place }),
+        Err(ParseFault::Limit { which, place }) => {
+            Report::Refused(ParseFault::Limit { which, place })
+        }
+        Err(ParseFault::NoMemory) => Report::NoMemory,
+    }
+}
+
+/// What the tree in this file comes to.
+fn print_of_file<S: Shelf>(alloc: Global, name: &str, shelf: &mut S) -> Report
+    requires { Contains (S.names shelf.old) name.now }
+    ensures outcome { IsPrintOutcome (S.told shelf.old name.now) (S.faults shelf.old name.now) (S.faults shelf.new name.now) (S.reach shelf.new name.now) result }
     ensures told { S.told shelf.new ≡ S.told shelf.old }
     ensures names { S.names shelf.new ≡ S.names shelf.old }
 {
-    match file_of(words) {
-        Some(name) => report_on_file(alloc, name, shelf),
+    match fetch(alloc, shelf, name, SET_LIMIT) {
+        Ok(text) => print(alloc, text.as_slice()),
+        Err(FetchError::Failed) => Report::ReadFault,
+        Err(FetchError::TooLong) => Report::TooLong(Which::Set),
+        Err(FetchError::NoMemory) => Report::NoMemory,
+    }
+}
+
+/// What the words ask for.
+fn report_on<S: Shelf>(alloc: Global, words: &[String], shelf: &mut S) -> Report
+    requires { NamesKnown (map string_bytes words.now) (S.names shelf.old) }
+    ensures outcome { IsOutcome (set_file (map string_bytes words.now)) (print_file (map string_bytes words.now)) (S.told shelf.old) (S.faults shelf.old) (S.faults shelf.new) (S.reach shelf.new) result }
+    ensures told { S.told shelf.new ≡ S.told shelf.old }
+    ensures names { S.names shelf.new ≡ S.names shelf.old }
+{
+    if let Some(name) = file_after(words, "verify") {
+        return report_on_file(alloc, name, shelf);
+    }
+    match file_after(words, "print") {
+        Some(name) => print_of_file(alloc, name, shelf),
         None => Report::Usage,
     }
 }
@@ -101,7 +136,9 @@ fn answer<K: Sink>(alloc: Global, report: Report, sink: &mut K) -> Ended
 pub fn run<S: Shelf, K: Sink>(alloc: Global, words: &[String], shelf: &mut S, sink: &mut K) -> Ended
     requires { NamesKnown (map string_bytes words.now) (S.names shelf.old) }
     ensures headline { (name : List ℕ) → set_file (map string_bytes words.now) ≡ Some name → result.status ≡ 0 → HasHeadline (S.told shelf.old name) result.report }
-    ensures outcome { IsOutcome (set_file (map string_bytes words.now)) (S.told shelf.old) (S.faults shelf.old) (S.faults shelf.new) (S.reach shelf.new) result.report }
+    ensures complete { IsComplete (set_file (map string_bytes words.now)) (S.told shelf.old) (S.faults shelf.old) (S.faults shelf.new) result.report }
+    ensures prints { PrintsAll (set_file (map string_bytes words.now)) (print_file (map string_bytes words.now)) (S.told shelf.old) (S.faults shelf.old) (S.faults shelf.new) result.report }
+    ensures outcome { IsOutcome (set_file (map string_bytes words.now)) (print_file (map string_bytes words.now)) (S.told shelf.old) (S.faults shelf.old) (S.faults shelf.new) (S.reach shelf.new) result.report }
     ensures status { HasStatus (K.faults sink.old) (K.faults sink.new) result }
     ensures written { Writes (K.taken sink.old) (K.taken sink.new) result }
     ensures told { S.told shelf.new ≡ S.told shelf.old }

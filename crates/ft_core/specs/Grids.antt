@@ -1,5 +1,5 @@
 -- The cells of a table, by rows. Source: Parnas's tabular expressions, in their normal, inverted and vector form.
-use Rattle.std.specs.Prelude.{ℕ, Bool, true, false, ◌&&◌, ◌==◌, List, [], ◌∷◌, map, filter, if◌then◌else◌}
+use Rattle.std.specs.Prelude.{ℕ, Bool, true, false, ◌&&◌, ◌==◌, List, [], ◌∷◌, map, filter}
 use Rattle.std.specs.List.{list_any, flat_map, zip, enumerate_from}
 use Rattle.ft_core.specs.declared.tables.Table.{Table}
 use Rattle.ft_core.specs.declared.tables.Section.{Section}

@@ -1,6 +1,6 @@
 -- What holds of every checked set.
-use Rattle.std.specs.Prelude.{ℕ, ◌+◌, ◌≡◌, ◌<◌, ℤ, pos, ◌<ℤ◌, ◌≤ℤ◌, int_le, int_lt, Bool, true, false, ◌&&◌, ◌||◌, IsTrue, List, [], length, slice_get, Option, Some, None, if◌then◌else◌}
-use Rattle.std.specs.List.{Contains, flat_map, list_any}
+use Rattle.std.specs.Prelude.{ℕ, ◌+◌, ◌≡◌, ◌<◌, ℤ, pos, ◌<ℤ◌, Bool, true, false, ◌||◌, IsTrue, List, [], ◌++◌, length, slice_get, Some, None, if◌then◌else◌}
+use Rattle.std.specs.List.{Contains, flat_map, list_all, list_any}
 use Rattle.ft_base.specs.Interval.{IsWithin}
 use Rattle.ft_core.specs.declared.tables.Var.{Var}
 use Rattle.ft_core.specs.declared.tables.Memory.{Memory}
@@ -10,10 +10,12 @@ use Rattle.ft_core.specs.declared.tables.Side.{Side}
 use Rattle.ft_core.specs.declared.tables.Side.TheVariants as side
 use Rattle.ft_core.specs.declared.tables.Section.{Section}
 use Rattle.ft_core.specs.declared.tables.Section.TheVariants as section
+use Rattle.ft_core.specs.declared.term.Term.{Term}
 use Rattle.ft_core.specs.declared.term.Cond.{Cond}
 use Rattle.ft_core.specs.Kinds.{Kinds, monitored, outputs, defined_kinds, side_kinds, is_of}
-use Rattle.ft_core.specs.Grids.{is_for}
-use Rattle.ft_core.specs.Reads.{Read, at_now, at_before, of_memory, of_age, cond_reads, memory_reads, grid_reads}
+use Rattle.ft_core.specs.Grids.{cells_for, is_for}
+use Rattle.ft_core.specs.Reads.{Read, at_now, at_before, of_memory, of_age, cond_reads, memory_reads, grid_reads, cell_reads}
+use Rattle.ft_core.specs.Size.{is_sized, is_sized_memory, is_sized_grid}
 
 abbrev pub side_of : Memory → Side
 side_of (Held name s cond hold) = s
@@ -62,10 +64,10 @@ abbrev pub is_current : Read → Bool
 is_current (at_before x) = false
 is_current _ = true
 
--- what a variable, by its REQ or SOF table, or a memory reads
+-- what a variable, by its own cells of its REQ or SOF table, or a memory reads
 abbrev pub item_reads : List Memory → List Table → Read → List Read
 item_reads memories tables (at_now x) =
-    flat_map (λ t. if is_for section.Req x t || is_for section.Sof x t then grid_reads t.grid else []) tables
+    flat_map (λ t. if is_for section.Req x t || is_for section.Sof x t then flat_map cell_reads (cells_for x t.grid) else []) tables
 item_reads memories tables (of_memory m) = memory_reads (slice_get memories m)
 item_reads memories tables _ = []
 
@@ -78,17 +80,25 @@ pub record IsRank (vars : List Var) (memories : List Memory) (tables : List Tabl
 abbrev pub HasOrder : List Var → List Memory → List Table → Type 0
 HasOrder vars memories tables = (rank : Read → ℕ) × IsRank vars memories tables rank
 
--- a hold is 0 to 1,000,000 ms, and the bounds of a band lie apart
-abbrev pub is_sound_memory : Memory → Bool
-is_sound_memory (Held name s cond hold) = int_le (pos 0) hold && int_le hold (pos 1000000)
-is_sound_memory (Hyst name s e lo hi start) = int_lt lo hi
+-- a hold is 0 to 1,000,000 ms
+abbrev pub IsHold : ℤ → Type 0
+IsHold = IsWithin (pos 0, pos 1000000)
 
--- what was checked of a set: its numbers, what may be read where, one table for each variable and section, and an order
+-- a period is 1 to 10,000 ms
+abbrev pub IsPeriod : ℤ → Type 0
+IsPeriod = IsWithin (pos 1, pos 10000)
+
+-- what was checked of a set: its numbers, the sizes of its terms, what may be read where, one table for each variable and
+-- section, and an order
 pub record IsSound (period : ℤ) (vars : List Var) (memories : List Memory) (tables : List Table) (first always step : List Cond) : Type 0 where
-  pub positive : pos 0 <ℤ period
-  pub limited : period ≤ℤ pos 10000
+  pub has_period : IsPeriod period
   pub inits : (x : ℕ) (v : Var) → slice_get vars x ≡ Some v → IsWithin v.range v.init
-  pub memories_sound : (m : ℕ) (memory : Memory) → slice_get memories m ≡ Some memory → IsTrue (is_sound_memory memory)
+  pub timers : (m : ℕ) (name : List ℕ) (s : Side) (cond : Cond) (hold : ℤ) → slice_get memories m ≡ Some (Held name s cond hold) → IsHold hold
+  pub bands : (m : ℕ) (name : List ℕ) (s : Side) (e : Term) (lo hi : ℤ) (start : Bool) → slice_get memories m ≡ Some (Hyst name s e lo hi start)
+      → lo <ℤ hi
+  pub sized_memories : IsTrue (list_all (is_sized_memory vars memories) memories)
+  pub sized_tables : IsTrue (list_all (λ table. is_sized_grid vars memories table.grid) tables)
+  pub sized_clauses : IsTrue (list_all (is_sized vars memories) (first ++ always ++ step))
   pub tables_read : (k : ℕ) (table : Table) (r : Read) → slice_get tables k ≡ Some table → Contains (grid_reads table.grid) r
       → IsTrue (may_read vars memories table.section r)
   pub memories_read : (m : ℕ) (memory : Memory) (r : Read) → slice_get memories m ≡ Some memory → Contains (memory_reads (Some memory)) r

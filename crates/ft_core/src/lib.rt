@@ -1,12 +1,16 @@
 //! The checked set of tables: variables, terms and conditions, memories, grids, blocks, and lists of scans.
 #![tactic(auto)]
 
+mod circle;
 mod history;
 mod label;
+mod ordering;
 mod tables;
 mod term;
+mod walk;
 
 pub use history::History;
 pub use label::{Label, State};
+pub use ordering::{OrderFault, order, order_gives_rank, rank_excludes_circles};
 pub use tables::{Block, Fact, Grid, Memory, Section, Side, Table, Tables, Take, Var, VarKind};
 pub use term::{Cond, Rel, Term};

@@ -1,10 +1,10 @@
 -- The cells of a table: what they read, and the one that holds.
-use Rattle.std.proofs.Common.{◌≡◌, ◌∙◌, sym, ap, subst, refl, ℕ, zero, suc, ◌+◌, ◌<◌, ℤ, Bool, true, false, ◌&&◌, ◌||◌, cond, List, [], ◌∷◌, ◌++◌, map, length, slice_get, Option, Some, None, arith, ⊎_elim, append-nil}
-use Rattle.std.specs.Prelude.{⊤, IsTrue, filter, ◌==◌}
+use Rattle.std.proofs.Common.{◌≡◌, ◌∙◌, sym, ap, subst, refl, ℕ, zero, suc, ◌+◌, ℤ, Bool, true, false, ◌&&◌, ◌||◌, cond, List, [], ◌∷◌, ◌++◌, map, length, slice_get, Some, arith, ⊎_elim, append-nil}
+use Rattle.std.specs.Prelude.{⊤, filter, ◌==◌}
 use Rattle.std.specs.List.{Contains, All, list_any, list_all, flat_map, zip, enumerate_from}
 use Rattle.std.specs.Ordering.{int_eq}
 use Rattle.std.proofs.lemmas.Bool.{cases_Bool, cond-true, cond-false, and_parts, or_left, or_right, eq-eqb, eqb-true, both_ways}
-use Rattle.std.proofs.lemmas.List.Elements.{Contains-append_left, Contains-append_right}
+use Rattle.std.proofs.lemmas.List.Elements.{Contains-append_left, Contains-append_right, Contains-append_cases}
 use Rattle.std.proofs.lemmas.Option.{none-some, same_Some}
 use Rattle.ft_base.specs.Interval.{IsWithin}
 use Rattle.ft_core.specs.declared.tables.Tables.{Tables}
@@ -15,16 +15,20 @@ use Rattle.ft_core.specs.declared.tables.Grid.TheVariants.{Normal, Inverted, Vec
 use Rattle.ft_core.specs.declared.term.Term.{Term}
 use Rattle.ft_core.specs.declared.term.Cond.{Cond}
 use Rattle.ft_core.specs.Grids.{Cell, row_cells, cells, cells_for, defines, is_section, is_for}
-use Rattle.ft_core.specs.Reads.{Read, term_reads, cond_reads, grid_reads}
+use Rattle.ft_core.specs.Reads.{Read, term_reads, cond_reads, grid_reads, cell_reads}
 use Rattle.ft_mean.specs.Value.{View, value, truth}
 use Rattle.ft_mean.specs.Cells.{cell_holds, holding, cells_of}
 use Rattle.ft_mean.specs.Proper.{HasOneCell}
-use Rattle.ft_mean.proofs.Agree.{AllSame, same_value, same_truth}
+use Rattle.ft_mean.proofs.Agree.{Same, AllSame, same_value, same_truth}
 
 -- P of each item
 abbrev pub Each : {A : Type 0} → (A → Type 0) → List A → Type 0
 Each P [] = ⊤
 Each P (x ∷ xs) = P x × Each P xs
+
+each_more : {A : Type 0} (P Q : A → Type 0) (xs : List A) → ((a : A) → P a → Q a) → Each P xs → Each Q xs
+each_more P Q [] h p = tt
+each_more P Q (x ∷ xs) h p = (h x p.0, each_more P Q xs h p.1)
 
 each-append : {A : Type 0} (P : A → Type 0) (xs ys : List A) → Each P xs → Each P ys → Each P (xs ++ ys)
 each-append P [] ys p q = q
@@ -38,118 +42,135 @@ each-filter P test (x ∷ xs) p =
       | false ↦ each-filter P test xs p.1
     ]
 
+-- a test of all that a list reads, item by item
+module _ (P : Read → Type 0) where
+  abbrev pub AllOf : List Read → Type 0
+  AllOf reads = (r : Read) → Contains reads r → P r
+
+  pub each_reads : {A : Type 0} (f : A → List Read) (xs : List A) → AllOf (flat_map f xs) → Each (λ x. AllOf (f x)) xs
+  each_reads f [] h = tt
+  each_reads f (x ∷ xs) h = (
+    λ r c. h r (Contains-append_left (f x) (flat_map f xs) r c),
+    each_reads f xs (λ r c. h r (Contains-append_right (f x) (flat_map f xs) r c)),
+  )
+
+  both_read : (xs ys : List Read) → AllOf xs → AllOf ys → AllOf (xs ++ ys)
+  both_read xs ys p q r c = ⊎_elim (λ l. p r l) (λ l. q r l) (Contains-append_cases xs ys r c)
+
+  pub reads_each : {A : Type 0} (f : A → List Read) (xs : List A) → Each (λ x. AllOf (f x)) xs → AllOf (flat_map f xs)
+  reads_each f [] h r c = absurd (omega (arith, c.1))
+  reads_each f (x ∷ xs) h r c = both_read (f x) (flat_map f xs) h.0 (reads_each f xs h.1) r c
+
+  left : (xs ys : List Read) → AllOf (xs ++ ys) → AllOf xs
+  left xs ys h r c = h r (Contains-append_left xs ys r c)
+
+  right : (xs ys : List Read) → AllOf (xs ++ ys) → AllOf ys
+  right xs ys h r c = h r (Contains-append_right xs ys r c)
+
+  abbrev OfCond : Cond → Type 0
+  OfCond c = AllOf (cond_reads c)
+
+  abbrev OfTerm : Term → Type 0
+  OfTerm e = AllOf (term_reads e)
+
+  abbrev pub OfCell : Cell → Type 0
+  OfCell cell = AllOf (cell_reads cell)
+
+  term_rows : (rows : List (List Term)) → AllOf (flat_map (flat_map term_reads) rows) → Each (Each OfTerm) rows
+  term_rows rows h = each_more (λ es. AllOf (flat_map term_reads es)) (Each OfTerm) rows (λ es. each_reads term_reads es) (each_reads (flat_map term_reads) rows h)
+
+  cond_rows : (rows : List (List Cond)) → AllOf (flat_map (flat_map cond_reads) rows) → Each (Each OfCond) rows
+  cond_rows rows h = each_more (λ cs. AllOf (flat_map cond_reads cs)) (Each OfCond) rows (λ cs. each_reads cond_reads cs) (each_reads (flat_map cond_reads) rows h)
+
+  -- the cells of one row
+  row_reads : (n i target : ℕ) (columns : List (List Cond × Term)) → Each (λ c. Each OfCond c.0 × OfTerm c.1) columns
+      → Each OfCell (map (λ c. record { row = i; column = c.0; target = target; conds = c.1.0; term = c.1.1 }) (enumerate_from n columns))
+  row_reads n i target [] h = tt
+  row_reads n i target (c ∷ cs) h =
+      (both_read (flat_map cond_reads c.0) (term_reads c.1) (reads_each cond_reads c.0 h.0.0) h.0.1, row_reads (n + 1) i target cs h.1)
+
+  normal_columns : (r : Cond) → OfCond r → (columns : List Cond) (es : List Term) → Each OfCond columns → Each OfTerm es
+      → Each (λ c. Each OfCond c.0 × OfTerm c.1) (zip (map (λ column. r ∷ column ∷ []) columns) es)
+  normal_columns r hr [] es hc he = tt
+  normal_columns r hr (c ∷ cs) [] hc he = tt
+  normal_columns r hr (c ∷ cs) (e ∷ es) hc he = (((hr, (hc.0, tt)), he.0), normal_columns r hr cs es hc.1 he.1)
+
+  vector_columns : (columns : List Cond) (es : List Term) → Each OfCond columns → Each OfTerm es
+      → Each (λ c. Each OfCond c.0 × OfTerm c.1) (zip (map (λ column. column ∷ []) columns) es)
+  vector_columns [] es hc he = tt
+  vector_columns (c ∷ cs) [] hc he = tt
+  vector_columns (c ∷ cs) (e ∷ es) hc he = (((hc.0, tt), he.0), vector_columns cs es hc.1 he.1)
+
+  normal_reads : (n target : ℕ) (columns rows : List Cond) (terms : List (List Term)) → Each OfCond columns → Each OfCond rows → Each (Each OfTerm) terms
+      → Each OfCell (flat_map (λ r. row_cells r.0 target (zip (map (λ column. r.1.0 ∷ column ∷ []) columns) r.1.1)) (enumerate_from n (zip rows terms)))
+  normal_reads n target columns [] terms hc hr ht = tt
+  normal_reads n target columns (r ∷ rows) [] hc hr ht = tt
+  normal_reads n target columns (r ∷ rows) (es ∷ terms) hc hr ht = each-append OfCell
+      (row_cells n target (zip (map (λ column. r ∷ column ∷ []) columns) es)) _
+      (row_reads 0 n target _ (normal_columns r hr.0 columns es hc ht.0))
+      (normal_reads (n + 1) target columns rows terms hc hr.1 ht.1)
+
+  inverted_reads : (n target : ℕ) (terms : List Term) (rows : List Cond) (grid : List (List Cond)) → Each OfTerm terms → Each OfCond rows → Each (Each OfCond) grid
+      → Each OfCell (flat_map (λ r. row_cells r.0 target (zip (map (λ entry. r.1.0 ∷ entry ∷ []) r.1.1) terms)) (enumerate_from n (zip rows grid)))
+  inverted_reads n target terms [] grid ht hr hg = tt
+  inverted_reads n target terms (r ∷ rows) [] ht hr hg = tt
+  inverted_reads n target terms (r ∷ rows) (cs ∷ grid) ht hr hg = each-append OfCell
+      (row_cells n target (zip (map (λ entry. r ∷ entry ∷ []) cs) terms)) _
+      (row_reads 0 n target _ (normal_columns r hr.0 cs terms hg.0 ht))
+      (inverted_reads (n + 1) target terms rows grid ht hr.1 hg.1)
+
+  vector_reads : (n : ℕ) (columns : List Cond) (targets : List ℕ) (terms : List (List Term)) → Each OfCond columns → Each (Each OfTerm) terms
+      → Each OfCell (flat_map (λ r. row_cells r.0 r.1.0 (zip (map (λ column. column ∷ []) columns) r.1.1)) (enumerate_from n (zip targets terms)))
+  vector_reads n columns [] terms hc ht = tt
+  vector_reads n columns (x ∷ targets) [] hc ht = tt
+  vector_reads n columns (x ∷ targets) (es ∷ terms) hc ht = each-append OfCell
+      (row_cells n x (zip (map (λ column. column ∷ []) columns) es)) _
+      (row_reads 0 n x _ (vector_columns columns es hc ht.0))
+      (vector_reads (n + 1) columns targets terms hc ht.1)
+
+  -- what holds of all that a table reads holds of all that its cells read
+  pub cells_read : (g : Grid) → AllOf (grid_reads g) → Each OfCell (cells g)
+  cells_read (Normal target columns rows terms) h =
+      let heads = left (flat_map cond_reads columns ++ flat_map cond_reads rows) (flat_map (flat_map term_reads) terms) h in
+      normal_reads 0 target columns rows terms
+      (each_reads cond_reads columns (left (flat_map cond_reads columns) (flat_map cond_reads rows) heads))
+      (each_reads cond_reads rows (right (flat_map cond_reads columns) (flat_map cond_reads rows) heads))
+      (term_rows terms (right (flat_map cond_reads columns ++ flat_map cond_reads rows) (flat_map (flat_map term_reads) terms) h))
+  cells_read (Inverted target terms rows grid) h =
+      let heads = left (flat_map term_reads terms ++ flat_map cond_reads rows) (flat_map (flat_map cond_reads) grid) h in
+      inverted_reads 0 target terms rows grid
+      (each_reads term_reads terms (left (flat_map term_reads terms) (flat_map cond_reads rows) heads))
+      (each_reads cond_reads rows (right (flat_map term_reads terms) (flat_map cond_reads rows) heads))
+      (cond_rows grid (right (flat_map term_reads terms ++ flat_map cond_reads rows) (flat_map (flat_map cond_reads) grid) h))
+  cells_read (Vector columns targets terms) h =
+      vector_reads 0 columns targets terms
+      (each_reads cond_reads columns (left (flat_map cond_reads columns) (flat_map (flat_map term_reads) terms) h))
+      (term_rows terms (right (flat_map cond_reads columns) (flat_map (flat_map term_reads) terms) h))
+
+-- what the cells for a variable read, the table reads
+pub own_reads : (g : Grid) (x : ℕ) (r : Read) → Contains (flat_map cell_reads (cells_for x g)) r → Contains (grid_reads g) r
+own_reads g x = reads_each (Contains (grid_reads g)) cell_reads (cells_for x g)
+    (each-filter (OfCell (Contains (grid_reads g))) (λ c. c.target == x) (cells g) (cells_read (Contains (grid_reads g)) g (λ r c. c)))
+
 module _ (V W : View) where
   -- the two views see the conditions of a cell, and its term, alike
   abbrev pub SameCell : Cell → Type 0
   SameCell cell = (cell_holds V cell ≡ cell_holds W cell) × (value V cell.term ≡ value W cell.term)
 
-  abbrev SameCond : Cond → Type 0
-  SameCond c = truth V c ≡ truth W c
-
-  abbrev SameTerm : Term → Type 0
-  SameTerm e = value V e ≡ value W e
-
-  conds_alike : (conds : List Cond) → AllSame V W (flat_map cond_reads conds) → Each SameCond conds
-  conds_alike [] h = tt
-  conds_alike (c ∷ cs) h = (
-    same_truth V W c (λ r k. h r (Contains-append_left (cond_reads c) (flat_map cond_reads cs) r k)),
-    conds_alike cs (λ r k. h r (Contains-append_right (cond_reads c) (flat_map cond_reads cs) r k)),
-  )
-
-  terms_alike : (terms : List Term) → AllSame V W (flat_map term_reads terms) → Each SameTerm terms
-  terms_alike [] h = tt
-  terms_alike (e ∷ es) h = (
-    same_value V W e (λ r k. h r (Contains-append_left (term_reads e) (flat_map term_reads es) r k)),
-    terms_alike es (λ r k. h r (Contains-append_right (term_reads e) (flat_map term_reads es) r k)),
-  )
-
-  term_rows_alike : (rows : List (List Term)) → AllSame V W (flat_map (flat_map term_reads) rows) → Each (Each SameTerm) rows
-  term_rows_alike [] h = tt
-  term_rows_alike (es ∷ rows) h = (
-    terms_alike es (λ r k. h r (Contains-append_left (flat_map term_reads es) (flat_map (flat_map term_reads) rows) r k)),
-    term_rows_alike rows (λ r k. h r (Contains-append_right (flat_map term_reads es) (flat_map (flat_map term_reads) rows) r k)),
-  )
-
-  cond_rows_alike : (rows : List (List Cond)) → AllSame V W (flat_map (flat_map cond_reads) rows) → Each (Each SameCond) rows
-  cond_rows_alike [] h = tt
-  cond_rows_alike (cs ∷ rows) h = (
-    conds_alike cs (λ r k. h r (Contains-append_left (flat_map cond_reads cs) (flat_map (flat_map cond_reads) rows) r k)),
-    cond_rows_alike rows (λ r k. h r (Contains-append_right (flat_map cond_reads cs) (flat_map (flat_map cond_reads) rows) r k)),
-  )
-
-  all_alike : (conds : List Cond) → Each SameCond conds → list_all (truth V) conds ≡ list_all (truth W) conds
+  pub all_alike : (conds : List Cond) → AllSame V W (flat_map cond_reads conds) → list_all (truth V) conds ≡ list_all (truth W) conds
   all_alike [] h = refl
-  all_alike (c ∷ cs) h = let here = h.0 in let more = all_alike cs h.1 in λ i. here i && more i
+  all_alike (c ∷ cs) h =
+      let here = same_truth V W c (left (Same V W) (cond_reads c) (flat_map cond_reads cs) h) in
+      let more = all_alike cs (right (Same V W) (cond_reads c) (flat_map cond_reads cs) h) in λ i. here i && more i
 
-  -- the cells of one row
-  row_alike : (n i target : ℕ) (columns : List (List Cond × Term)) → Each (λ c. Each SameCond c.0 × SameTerm c.1) columns
-      → Each SameCell (map (λ c. record { row = i; column = c.0; target = target; conds = c.1.0; term = c.1.1 }) (enumerate_from n columns))
-  row_alike n i target [] h = tt
-  row_alike n i target (c ∷ cs) h = ((all_alike c.0 h.0.0, h.0.1), row_alike (n + 1) i target cs h.1)
-
-  normal_columns : (r : Cond) → SameCond r → (columns : List Cond) (es : List Term) → Each SameCond columns → Each SameTerm es
-      → Each (λ c. Each SameCond c.0 × SameTerm c.1) (zip (map (λ column. r ∷ column ∷ []) columns) es)
-  normal_columns r same [] es hc he = tt
-  normal_columns r same (c ∷ cs) [] hc he = tt
-  normal_columns r same (c ∷ cs) (e ∷ es) hc he = (((same, (hc.0, tt)), he.0), normal_columns r same cs es hc.1 he.1)
-
-  vector_columns : (columns : List Cond) (es : List Term) → Each SameCond columns → Each SameTerm es
-      → Each (λ c. Each SameCond c.0 × SameTerm c.1) (zip (map (λ column. column ∷ []) columns) es)
-  vector_columns [] es hc he = tt
-  vector_columns (c ∷ cs) [] hc he = tt
-  vector_columns (c ∷ cs) (e ∷ es) hc he = (((hc.0, tt), he.0), vector_columns cs es hc.1 he.1)
-
-  normal_alike : (n target : ℕ) (columns rows : List Cond) (terms : List (List Term)) → Each SameCond columns → Each SameCond rows → Each (Each SameTerm) terms
-      → Each SameCell (flat_map (λ r. row_cells r.0 target (zip (map (λ column. r.1.0 ∷ column ∷ []) columns) r.1.1)) (enumerate_from n (zip rows terms)))
-  normal_alike n target columns [] terms hc hr ht = tt
-  normal_alike n target columns (r ∷ rows) [] hc hr ht = tt
-  normal_alike n target columns (r ∷ rows) (es ∷ terms) hc hr ht = each-append SameCell
-      (row_cells n target (zip (map (λ column. r ∷ column ∷ []) columns) es)) _
-      (row_alike 0 n target _ (normal_columns r hr.0 columns es hc ht.0))
-      (normal_alike (n + 1) target columns rows terms hc hr.1 ht.1)
-
-  inverted_alike : (n target : ℕ) (terms : List Term) (rows : List Cond) (grid : List (List Cond)) → Each SameTerm terms → Each SameCond rows → Each (Each SameCond) grid
-      → Each SameCell (flat_map (λ r. row_cells r.0 target (zip (map (λ entry. r.1.0 ∷ entry ∷ []) r.1.1) terms)) (enumerate_from n (zip rows grid)))
-  inverted_alike n target terms [] grid ht hr hg = tt
-  inverted_alike n target terms (r ∷ rows) [] ht hr hg = tt
-  inverted_alike n target terms (r ∷ rows) (cs ∷ grid) ht hr hg = each-append SameCell
-      (row_cells n target (zip (map (λ entry. r ∷ entry ∷ []) cs) terms)) _
-      (row_alike 0 n target _ (normal_columns r hr.0 cs terms hg.0 ht))
-      (inverted_alike (n + 1) target terms rows grid ht hr.1 hg.1)
-
-  vector_alike : (n : ℕ) (columns : List Cond) (targets : List ℕ) (terms : List (List Term)) → Each SameCond columns → Each (Each SameTerm) terms
-      → Each SameCell (flat_map (λ r. row_cells r.0 r.1.0 (zip (map (λ column. column ∷ []) columns) r.1.1)) (enumerate_from n (zip targets terms)))
-  vector_alike n columns [] terms hc ht = tt
-  vector_alike n columns (x ∷ targets) [] hc ht = tt
-  vector_alike n columns (x ∷ targets) (es ∷ terms) hc ht = each-append SameCell
-      (row_cells n x (zip (map (λ column. column ∷ []) columns) es)) _
-      (row_alike 0 n x _ (vector_columns columns es hc ht.0))
-      (vector_alike (n + 1) columns targets terms hc ht.1)
-
-  left : (xs ys : List Read) → AllSame V W (xs ++ ys) → AllSame V W xs
-  left xs ys h r c = h r (Contains-append_left xs ys r c)
-
-  right : (xs ys : List Read) → AllSame V W (xs ++ ys) → AllSame V W ys
-  right xs ys h r c = h r (Contains-append_right xs ys r c)
-
-  -- views that agree on what a table reads see each cell alike
-  pub cells_alike : (g : Grid) → AllSame V W (grid_reads g) → Each SameCell (cells g)
-  cells_alike (Normal target columns rows terms) h =
-      let heads = left (flat_map cond_reads columns ++ flat_map cond_reads rows) (flat_map (flat_map term_reads) terms) h in
-      normal_alike 0 target columns rows terms
-      (conds_alike columns (left (flat_map cond_reads columns) (flat_map cond_reads rows) heads))
-      (conds_alike rows (right (flat_map cond_reads columns) (flat_map cond_reads rows) heads))
-      (term_rows_alike terms (right (flat_map cond_reads columns ++ flat_map cond_reads rows) (flat_map (flat_map term_reads) terms) h))
-  cells_alike (Inverted target terms rows grid) h =
-      let heads = left (flat_map term_reads terms ++ flat_map cond_reads rows) (flat_map (flat_map cond_reads) grid) h in
-      inverted_alike 0 target terms rows grid
-      (terms_alike terms (left (flat_map term_reads terms) (flat_map cond_reads rows) heads))
-      (conds_alike rows (right (flat_map term_reads terms) (flat_map cond_reads rows) heads))
-      (cond_rows_alike grid (right (flat_map term_reads terms ++ flat_map cond_reads rows) (flat_map (flat_map cond_reads) grid) h))
-  cells_alike (Vector columns targets terms) h =
-      vector_alike 0 columns targets terms
-      (conds_alike columns (left (flat_map cond_reads columns) (flat_map (flat_map term_reads) terms) h))
-      (term_rows_alike terms (right (flat_map cond_reads columns) (flat_map (flat_map term_reads) terms) h))
+  -- views that agree on what cells read see each of them alike
+  pub cells_alike : (cs : List Cell) → AllSame V W (flat_map cell_reads cs) → Each SameCell cs
+  cells_alike cs h = each_more (OfCell (Same V W)) SameCell cs
+      (λ c same. (
+        all_alike c.conds (left (Same V W) (flat_map cond_reads c.conds) (term_reads c.term) same),
+        same_value V W c.term (right (Same V W) (flat_map cond_reads c.conds) (term_reads c.term) same),
+      ))
+      (each_reads (Same V W) cell_reads cs h)
 
   -- so they find the same value among them
   pub same_defined : (z : ℤ) (cells : List Cell) → Each SameCell cells
@@ -180,10 +201,6 @@ one_of V range cs (c ∷ d ∷ rest) is one all = absurd (omega (arith, one))
 
 pub one_cell : (V : View) (cs : List Cell) (range : ℤ × ℤ) → HasOneCell V cs range → OneCell V cs range
 one_cell V cs range h = one_of V range cs (holding V cs) refl h.one h.in_range
-
-each_more : {A : Type 0} (P Q : A → Type 0) (xs : List A) → ((a : A) → P a → Q a) → Each P xs → Each Q xs
-each_more P Q [] h p = tt
-each_more P Q (x ∷ xs) h p = (h x p.0, each_more P Q xs h p.1)
 
 each_at : {A : Type 0} (P : A → Type 0) (xs : List A) → ((i : ℕ) (x : A) → slice_get xs i ≡ Some x → P x) → Each P xs
 each_at P [] h = tt

@@ -1,5 +1,5 @@
 -- The definitions, computed at cases with known answers.
-use Rattle.std.proofs.Common.{◌≡◌, refl, ℕ, ◌-◌, ◌*◌, ℤ, pos, negsuc, Bool, true, false, List, [], ◌∷◌, slice_index_or}
+use Rattle.std.proofs.Common.{◌≡◌, refl, ℕ, ◌-◌, ◌*◌, ℤ, pos, negsuc, true, false, List, [], ◌∷◌, slice_index_or}
 use Rattle.ft_base.specs.Division.{floor_of}
 use Rattle.ft_mean.specs.Past.{held, hyst, age}
 

@@ -12,23 +12,20 @@ use Rattle.ft_core.specs.declared.tables.Memory as tables
 use Rattle.ft_core.specs.declared.tables.Memory.TheVariants.{Held, Hyst}
 use Rattle.ft_core.specs.Kinds.{side_kinds}
 use Rattle.ft_core.specs.Reads.{Read, at_now, at_before, of_memory, of_age, memory_reads}
-use Rattle.ft_core.specs.Sound.{is_current, side_of}
+use Rattle.ft_core.specs.Sound.{is_current}
 use Rattle.ft_mean.specs.Value.{truth, value}
 use Rattle.ft_mean.specs.Reading.{Reading, before, begun, since}
 use Rattle.ft_mean.specs.Memory.{at_scan, remembered, memory_within, memory_at, look}
 use Rattle.ft_mean.specs.Proper.{IsLinked, IsLocal}
-use Rattle.ft_mean.proofs.WellFormed.{IsOf, OnSide, IsOrder, IsWellFormed, IsSoundMemory}
+use Rattle.ft_mean.proofs.WellFormed.{IsOf, OnSide, IsOrder, IsWellFormed}
 use Rattle.ft_mean.proofs.Agree.{Same, AllSame, same_truth, same_value}
+use Rattle.ft_mean.proofs.TimeLemmas.{begun_low}
 use Rattle.ft_mean.proofs.PastLemmas.{same_held, same_hyst, held_now, hyst_up, hyst_down}
 
 -- readings begin at the same scans
 begun_same : (S : Tables) (a b : Reading) (t : ℕ) → begun S a t ≡ begun S b t
 begun_same S a b zero = refl
 begun_same S a b (suc t) = begun_same S a b t
-
-begun_low : (S : Tables) (a : Reading) (t : ℕ) → begun S a t ≤ t
-begun_low S a zero = omega arith
-begun_low S a (suc t) = omega (arith, begun_low S a t)
 
 same_remembered : (S : Tables) (a b : Reading) (inner outer : ℕ → ℕ → Bool) (o : Option tables.Memory) (t : ℕ)
     → ((j : ℕ) → j ≤ t → AllSame (at_scan S a inner j) (at_scan S b outer j) (memory_reads o))
@@ -110,7 +107,7 @@ module _ (S : Tables) (wf : IsWellFormed S) where
       look_same (of_age m) on low = absurd on
 
   -- what is on a side reads no age
-  ageless : (s : Side) (a : Reading) (t : ℕ) (r : Read) → OnSide S s r → Same (at_scan S a (memory_at S a) t) (look S a t) r
+  pub ageless : (s : Side) (a : Reading) (t : ℕ) (r : Read) → OnSide S s r → Same (at_scan S a (memory_at S a) t) (look S a t) r
   ageless s a t (at_now x) on = refl
   ageless s a t (at_before x) on = refl
   ageless s a t (of_memory m) on = refl

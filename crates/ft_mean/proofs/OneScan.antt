@@ -1,7 +1,7 @@
 -- At one scan the tables of a section have exactly one answer.
-use Rattle.std.proofs.Common.{◌≡◌, ◌∙◌, sym, ap, subst, refl, ℕ, zero, suc, ◌<◌, ◌≤◌, ℤ, Bool, true, false, ◌||◌, List, [], ◌∷◌, slice_get, arith, inl, inr, ◌⊎◌, ⊎_elim}
-use Rattle.std.specs.Prelude.{IsTrue, filter, ◌==◌}
-use Rattle.std.specs.List.{Contains, list_any}
+use Rattle.std.proofs.Common.{◌≡◌, ◌∙◌, sym, ap, subst, refl, ℕ, ◌<◌, ℤ, Bool, true, false, ◌||◌, List, inl, inr, ◌⊎◌, ⊎_elim}
+use Rattle.std.specs.Prelude.{IsTrue}
+use Rattle.std.specs.List.{flat_map, list_any}
 use Rattle.std.specs.Ordering.{int_eq}
 use Rattle.std.proofs.lemmas.Bool.{or_cases, or_right}
 use Rattle.std.proofs.lemmas.Bool.Decides.{Decides-int_eq}
@@ -12,16 +12,16 @@ use Rattle.ft_core.specs.declared.tables.Var.{Var}
 use Rattle.ft_core.specs.declared.tables.Side.{Side}
 use Rattle.ft_core.specs.declared.tables.Side.TheVariants as side
 use Rattle.ft_core.specs.declared.tables.Section.{Section}
-use Rattle.ft_core.specs.Grids.{Cell, cells, cells_for, defines}
+use Rattle.ft_core.specs.Grids.{Cell, cells_for, defines}
 use Rattle.ft_core.specs.Kinds.{given_kinds, defined_kinds, side_kinds, section_of}
-use Rattle.ft_core.specs.Reads.{Read, at_now, grid_reads}
+use Rattle.ft_core.specs.Reads.{Read, at_now, grid_reads, cell_reads}
 use Rattle.ft_mean.specs.Value.{View, value}
 use Rattle.ft_mean.specs.Reading.{Reading, IsVar}
 use Rattle.ft_mean.specs.Memory.{look}
 use Rattle.ft_mean.specs.Cells.{holding, cells_of, defined}
 use Rattle.ft_mean.specs.Proper.{IsLocal, AllProper}
 use Rattle.ft_mean.proofs.Agree.{AllSame}
-use Rattle.ft_mean.proofs.CellLemmas.{Each, SameCell, OneCell, one_cell, cells_alike, cells_of-is, each-filter, same_defined}
+use Rattle.ft_mean.proofs.CellLemmas.{OneCell, one_cell, cells_alike, cells_of-is, own_reads, same_defined}
 use Rattle.ft_mean.proofs.WellFormed.{IsOf, IsTable, OnSide, MayRead, IsWellFormed, is_for_from}
 use Rattle.ft_mean.proofs.MemoryLemmas.{look_same}
 
@@ -71,12 +71,12 @@ module _ (S : Tables) (wf : IsWellFormed S) where
         cells_are = cells_of-is S section x at.0 at.1 at.2.0 it (λ l a there for. S.sound.one_table section x l at.0 a at.1 there at.2.0 for it);
       }
 
-  -- views that agree on what the table reads define the same value
-  pub defined_same : (section : Section) (V W : View) (x : ℕ) (z : ℤ) (t : TableOf S section x) → AllSame V W (grid_reads t.table.grid)
+  -- views that agree on what the cells for it read define the same value
+  pub defined_same : (section : Section) (V W : View) (x : ℕ) (z : ℤ) (t : TableOf S section x) → AllSame V W (flat_map cell_reads (cells_for x t.table.grid))
       → defined S section V x z ≡ defined S section W x z
   defined_same section V W x z t same =
       ap (λ c. list_any (λ d. int_eq z (value V d.term)) (holding V c)) t.cells_are
-      ∙ same_defined V W z (cells_for x t.table.grid) (each-filter (SameCell V W) (λ c. c.target == x) (cells t.table.grid) (cells_alike V W t.table.grid same))
+      ∙ same_defined V W z (cells_for x t.table.grid) (cells_alike V W (cells_for x t.table.grid) same)
       ∙ ap (λ c. list_any (λ d. int_eq z (value W d.term)) (holding W c)) (sym t.cells_are)
 
   module _ (proper : AllProper S) where
@@ -101,11 +101,11 @@ module _ (S : Tables) (wf : IsWellFormed S) where
     may_read side.Req r h = h
     may_read side.Sof r h = h
 
-    -- what a table of the side for x reads has a lower rank than x
+    -- what the cells for x of a table of the side read has a lower rank than x
     pub table_same : (a b : Reading) (t : ℕ) → ((j x : ℕ) → j < t → IsOf S (side_kinds s) x → a j x ≡ b j x)
         → (x : ℕ) → ((y : ℕ) → IsOf S (side_kinds s) y → wf.rank (at_now y) < wf.rank (at_now x) → a t y ≡ b t y)
-        → (o : TableOf S (section_of s) x) → AllSame (look S a t) (look S b t) (grid_reads o.table.grid)
+        → (o : TableOf S (section_of s) x) → AllSame (look S a t) (look S b t) (flat_map cell_reads (cells_for x o.table.grid))
     table_same a b t past x now o r c =
         look_same S wf s a b t past (wf.rank (at_now x)) now r
-        (may_read s r (subst (λ z. MayRead S z r) o.is.1 (wf.tables_read o.place o.table r o.is.0 c)))
+        (may_read s r (subst (λ z. MayRead S z r) o.is.1 (wf.tables_read o.place o.table r o.is.0 (own_reads o.table.grid x r c))))
         (λ current. wf.order.tables s o.place o.table x r o.is o.defines_it c current)

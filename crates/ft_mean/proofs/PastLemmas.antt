@@ -1,5 +1,5 @@
 -- Timers and bands: they see the scans up to this one, and are linked to what they remember.
-use Rattle.std.proofs.Common.{◌≡◌, ◌∙◌, sym, ap, refl, ℕ, zero, suc, ◌+◌, ◌-◌, ◌<◌, ◌≤◌, ℤ, ◌<ℤ◌, Bool, true, false, cond, ◌&&◌, ◌||◌, List, [], ◌∷◌, ◌++◌, Option, Some, None, arith, add-zero, ⊎_elim, true≢false}
+use Rattle.std.proofs.Common.{◌≡◌, ◌∙◌, sym, ap, refl, ℕ, zero, suc, ◌+◌, ◌-◌, ◌<◌, ◌≤◌, ℤ, ◌<ℤ◌, Bool, true, false, cond, ◌&&◌, ◌||◌, List, [], ◌∷◌, ◌++◌, Some, None, arith, add-zero, ⊎_elim, true≢false}
 use Rattle.std.specs.Prelude.{int_le, reverse}
 use Rattle.std.specs.List.{list_any, list_all, find, range_with_len}
 use Rattle.std.proofs.lemmas.Int.{ints}
@@ -29,14 +29,14 @@ same_held from ago hold p q t h = same_any _ _ from (suc t - from) (λ j low hig
     (same_all p q j (suc t - j) (λ k below above. h k (omega arith))))
 
 -- the last scan is put at the end
-range_more : (a n : ℕ) → range_with_len a (suc n) ≡ range_with_len a n ++ (a + n) ∷ []
+pub range_more : (a n : ℕ) → range_with_len a (suc n) ≡ range_with_len a n ++ (a + n) ∷ []
 range_more a zero = ap (λ x. x ∷ []) (sym (add-zero a))
 range_more a (suc n) =
     let last : a + 1 + n ≡ a + suc n = omega arith in
     ap (λ xs. a ∷ xs) (range_more (a + 1) n) ∙ ap (λ x. a ∷ (range_with_len (a + 1) n ++ x ∷ [])) last
 
 -- a band over the n scans from a on
-abbrev band : (lo hi : ℤ) (start : Bool) (e : ℕ → ℤ) (scans : List ℕ) → Bool
+abbrev pub band : (lo hi : ℤ) (start : Bool) (e : ℕ → ℤ) (scans : List ℕ) → Bool
 band lo hi start e js = elim (find (λ j. int_le hi (e j) || int_le (e j) lo) js) [ None ↦ start | Some j ↦ int_le hi (e j) ]
 
 band_step : (lo hi : ℤ) (start : Bool) (e : ℕ → ℤ) (j : ℕ) (js : List ℕ)
@@ -116,3 +116,23 @@ pub hyst_down : (from : ℕ) (lo hi : ℤ) (start : Bool) (e : ℕ → ℤ) (t :
 hyst_down from lo hi start e t low below down =
     let other = not_up lo hi (e t) below down in
     let end = hyst_end from lo hi start e t low in end.1 ∙ (λ i. cond (other i || down i) (other i) end.0)
+
+-- the bit one scan later
+abbrev pub next_bit : (lo hi : ℤ) → (before : Bool) → (now : ℤ) → Bool
+next_bit lo hi before now = cond (int_le hi now || int_le now lo) (int_le hi now) before
+
+module _ (lo hi : ℤ) (start : Bool) (e : ℕ → ℤ) where
+  -- a band goes on by one scan
+  pub hyst_next : (from t : ℕ) → from ≤ suc t → hyst from lo hi start e (suc t) ≡ next_bit lo hi (hyst from lo hi start e t) (e (suc t))
+  hyst_next from t low =
+      let more : suc (suc t) - from ≡ suc (suc t - from) = omega (arith, low) in
+      let last : from + (suc t - from) ≡ suc t = omega (arith, low) in
+      ap (λ k. band lo hi start e (reverse (range_with_len from k))) more ∙ band_next lo hi start e from (suc t - from)
+      ∙ ap (λ k. next_bit lo hi (hyst from lo hi start e t) (e k)) last
+
+  -- it begins after its start
+  pub hyst_first : (t : ℕ) → hyst t lo hi start e t ≡ next_bit lo hi start (e t)
+  hyst_first t =
+      let one : suc t - t ≡ 1 = omega arith in
+      let last : t + 0 ≡ t = omega arith in
+      ap (λ k. band lo hi start e (reverse (range_with_len t k))) one ∙ band_next lo hi start e t 0 ∙ ap (λ k. next_bit lo hi start (e k)) last

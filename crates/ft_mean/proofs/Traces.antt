@@ -1,5 +1,5 @@
 -- Every given list in range fits exactly one trace of its side.
-use Rattle.std.proofs.Common.{◌≡◌, ◌∙◌, sym, ap, subst, refl, ℕ, zero, suc, ◌+◌, ◌<◌, ◌≤◌, ℤ, pos, Bool, false, [], ◌∷◌, ◌++◌, length, Option, Some, None, slice_get, slice_index_or, arith, ⊎_elim, ext_get_or}
+use Rattle.std.proofs.Common.{◌≡◌, ◌∙◌, sym, ap, subst, refl, ℕ, zero, suc, ◌+◌, ◌<◌, ◌≤◌, ℤ, pos, Bool, false, [], ◌∷◌, ◌++◌, length, Some, None, slice_get, slice_index_or, arith, ⊎_elim, ext_get_or}
 use Rattle.std.specs.Prelude.{IsTrue}
 use Rattle.std.proofs.lemmas.Bool.{cases_Bool, cases_lt, cond-true, cond-false}
 use Rattle.std.proofs.lemmas.List.{length_push, get_or_push, get_or_append_left}
@@ -7,7 +7,7 @@ use Rattle.ft_base.specs.Interval.{IsWithin}
 use Rattle.ft_core.specs.declared.tables.Tables.{Tables}
 use Rattle.ft_core.specs.declared.tables.Var.{Var}
 use Rattle.ft_core.specs.declared.tables.Side.{Side}
-use Rattle.ft_core.specs.Kinds.{Kinds, place_of, is_of, given_kinds, defined_kinds, side_kinds, section_of}
+use Rattle.ft_core.specs.Kinds.{Kinds, place_of, is_of, given_kinds, side_kinds, section_of}
 use Rattle.ft_core.specs.Reads.{at_now}
 use Rattle.ft_mean.specs.Reading.{Reading, Scans, IsListOf, IsVar, reading_of, init_of}
 use Rattle.ft_mean.specs.Memory.{look}

@@ -1,7 +1,7 @@
 -- A worked set: a valve that opens once the pressure has been high for 200 ms, by a band and a timer, and by a count of scans.
 use Rattle.std.proofs.Common.{◌≡◌, sym, subst, refl, ℕ, zero, suc, ◌<◌, ℤ, pos, int_lt, Bool, true, false, not, ◌&&◌, ◌||◌, List, [], ◌∷◌, ◌++◌, map, slice_get, slice_index_or, Some, arith, true≢false, ⊎_elim, ◌∙◌}
 use Rattle.std.specs.Prelude.{◌==◌, if◌then◌else◌}
-use Rattle.std.specs.List.{Contains, list_all, list_any}
+use Rattle.std.specs.List.{Contains, flat_map, list_all, list_any}
 use Rattle.std.proofs.lemmas.Int.{ints}
 use Rattle.std.proofs.lemmas.Bool.{and_parts, and_from, or_cases, or_left, or_right}
 use Rattle.std.proofs.lemmas.Bool.Decides.{Decides-eqb}
@@ -26,9 +26,10 @@ use Rattle.ft_core.specs.declared.term.Cond.{Cond}
 use Rattle.ft_core.specs.declared.term.Cond.TheOpen as cl
 use Rattle.ft_core.specs.declared.term.Cond.TheVariants.{Yes, Compare, Memory as Recalled, Not, And, rolls-Yes, rolls-Compare, rolls-Memory, rolls-Not, rolls-And}
 use Rattle.ft_core.specs.Kinds.{Kinds, inputs, requirement, design, controlled, defined_kinds, is_of}
-use Rattle.ft_core.specs.Grids.{is_section, is_for}
-use Rattle.ft_core.specs.Reads.{Read, at_now, at_before, of_memory, of_age, term_reads, cond_reads, memory_reads, grid_reads}
-use Rattle.ft_core.specs.Sound.{IsSound, side_of, may_read, on_side, is_current, item_reads, is_sound_memory}
+use Rattle.ft_core.specs.Grids.{cells_for, is_section, is_for}
+use Rattle.ft_core.specs.Reads.{Read, at_now, at_before, of_memory, of_age, term_reads, cond_reads, memory_reads, grid_reads, cell_reads}
+use Rattle.ft_core.specs.Sound.{IsSound, side_of, may_read, on_side, is_current, item_reads}
+use Rattle.ft_core.proofs.SizeLemmas.{sizes}
 use Rattle.ft_core.proofs.TermLemmas.{reads-rolled, cond_reads-rolled}
 use Rattle.ft_mean.proofs.Passes.{each, passes, all_pass, mapped, from_one, asked, is_within, within}
 
@@ -176,22 +177,27 @@ read-where false reads q c = absurd (omega (arith, c.1))
 abbrev on_a_side : Part → Bool
 on_a_side p = is_section p.section section.Req || is_section p.section section.Sof
 
+-- what the cells for a variable read
+abbrev own : ℕ → Table → List Read
+own x table = flat_map cell_reads (cells_for x table.grid)
+
 -- what a part of a side reads at the same scan has a lower rank than what it defines
 abbrev part_falls : Part → Bool
-part_falls p = list_all (is_lower (rank (at_now p.target))) (grid_reads (normal p).grid) || not (on_a_side p)
+part_falls p = list_all (is_lower (rank (at_now p.target))) (own p.target (normal p)) || not (on_a_side p)
 
 all_fall : each (λ k p. part_falls p) parts ≡ true
 all_fall = simp reading
 
 of_part : (x k : ℕ) (p : Part) (q : Read) → is_current q ≡ true → slice_get parts k ≡ Some p → (is_for section.Req x (normal p) || is_for section.Sof x (normal p)) ≡ true
-    → Contains (grid_reads (normal p).grid) q → rank q < rank (at_now x)
+    → Contains (own x (normal p)) q → rank q < rank (at_now x)
 of_part x k p q now e is c =
     let here : (on_a_side p ≡ true) × (p.target ≡ x) = ⊎_elim
     (λ l. let i = and_parts (is_section p.section section.Req) (p.target == x) l in (or_left _ (is_section p.section section.Sof) i.0, (Decides-eqb _ _).0 i.1))
     (λ r. let i = and_parts (is_section p.section section.Sof) (p.target == x) r in (or_right (is_section p.section section.Req) _ i.0, (Decides-eqb _ _).0 i.1))
     (or_cases (is_for section.Req x (normal p)) (is_for section.Sof x (normal p)) is) in
-    subst (λ y. rank q < rank (at_now y)) here.1 (lower (rank (at_now p.target)) (grid_reads (normal p).grid)
-    (asked (list_all (is_lower (rank (at_now p.target))) (grid_reads (normal p).grid)) (on_a_side p) (passes (λ k p. part_falls p) parts all_fall k p e) here.0) q c now)
+    subst (λ y. rank q < rank (at_now y)) here.1 (lower (rank (at_now p.target)) (own p.target (normal p))
+    (asked (list_all (is_lower (rank (at_now p.target))) (own p.target (normal p))) (on_a_side p) (passes (λ k p. part_falls p) parts all_fall k p e) here.0) q
+    (subst (λ y. Contains (own y (normal p)) q) (sym here.1) c) now)
 
 falls : (r q : Read) → Contains (item_reads memories tables r) q → is_current q ≡ true → rank q < rank r
 falls (at_before x) q c now = absurd (omega (arith, c.1))
@@ -200,17 +206,25 @@ falls (of_memory zero) q c now = lower 1 (memory_reads (slice_get memories 0)) (
 falls (of_memory (suc zero)) q c now = lower 2 (memory_reads (slice_get memories 1)) (simp reading) q c now
 falls (of_memory (suc (suc m))) q c now = absurd (omega (arith, c.1))
 falls (at_now x) q c now =
-    let at = from_one (λ t. if is_for section.Req x t || is_for section.Sof x t then grid_reads t.grid else []) tables q c in
-    let there = read-where (is_for section.Req x at.1 || is_for section.Sof x at.1) (grid_reads at.1.grid) q at.3 in
+    let at = from_one (λ t. if is_for section.Req x t || is_for section.Sof x t then own x t else []) tables q c in
+    let there = read-where (is_for section.Req x at.1 || is_for section.Sof x at.1) (own x at.1) q at.3 in
     let p = mapped normal parts at.0 at.1 at.2 in
-    of_part x at.0 p.0 q now p.1 (subst (λ t. (is_for section.Req x t || is_for section.Sof x t) ≡ true) (sym p.2) there.0) (subst (λ (t : Table). Contains (grid_reads t.grid) q) (sym p.2) there.1)
+    of_part x at.0 p.0 q now p.1 (subst (λ t. (is_for section.Req x t || is_for section.Sof x t) ≡ true) (sym p.2) there.0) (subst (λ (t : Table). Contains (own x t) q) (sym p.2) there.1)
+
+abbrev keeps_limits : Memory → Bool
+keeps_limits (Held name s c hold) = is_within (pos 0, pos 1000000) hold
+keeps_limits (Hyst name s e lo hi start) = int_lt lo hi
 
 pub sound : IsSound (pos 50) vars memories tables [] [] []
 sound = record {
-  positive = omega (arith, ints);
-  limited = omega (arith, ints);
+  has_period = within (pos 1, pos 10000) (pos 50) refl;
   inits = λ x v e. within v.range v.init (passes (λ x v. is_within v.range v.init) vars refl x v e);
-  memories_sound = passes (λ m memory. is_sound_memory memory) memories refl;
+  timers = λ m name s c hold e. within (pos 0, pos 1000000) hold (passes (λ m memory. keeps_limits memory) memories refl m (Held name s c hold) e);
+  bands = λ m name s e lo hi start there.
+      let apart : int_lt lo hi ≡ true = passes (λ m memory. keeps_limits memory) memories refl m (Hyst name s e lo hi start) there in omega (arith, ints, apart);
+  sized_memories = simp sizes;
+  sized_tables = simp sizes;
+  sized_clauses = refl;
   tables_read = λ k table r e c. all_pass (may_read vars memories table.section) (grid_reads table.grid)
       (passes (λ k table. list_all (may_read vars memories table.section) (grid_reads table.grid)) tables (simp reading) k table e) r c;
   memories_read = λ m memory r e c. all_pass (on_side vars memories (side_of memory)) (memory_reads (Some memory))

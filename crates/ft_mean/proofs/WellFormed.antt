@@ -1,6 +1,6 @@
 -- A checked set with its variables, tables and ranks at hand, as the other lemmas use them.
-use Rattle.std.proofs.Common.{◌≡◌, ◌∙◌, sym, ap, subst, refl, ℕ, zero, suc, ◌<◌, ◌≤◌, ◌<ℤ◌, Bool, true, false, ◌||◌, cond, max, ◌+◌, length, slice_index_or, List, [], ◌∷◌, Option, Some, None, slice_get, arith, ⊎_elim, true≢false}
-use Rattle.std.specs.Prelude.{IsTrue, ⊤}
+use Rattle.std.proofs.Common.{◌≡◌, ◌∙◌, sym, ap, subst, refl, ℕ, zero, suc, ◌<◌, ◌≤◌, pos, ◌<ℤ◌, ◌≤ℤ◌, Bool, true, false, ◌||◌, cond, max, ◌+◌, length, slice_index_or, List, [], ◌∷◌, Option, Some, None, slice_get, arith, ⊎_elim, true≢false}
+use Rattle.std.specs.Prelude.{IsTrue}
 use Rattle.std.specs.List.{Contains, list_any, flat_map}
 use Rattle.std.proofs.lemmas.Int.{ints}
 use Rattle.std.proofs.lemmas.List.Elements.{Contains-append_left, Contains-append_right}
@@ -19,9 +19,9 @@ use Rattle.ft_core.specs.declared.tables.Side.TheVariants as side
 use Rattle.ft_core.specs.declared.tables.Section.{Section}
 use Rattle.ft_core.specs.declared.tables.Section.TheVariants as section
 use Rattle.ft_core.specs.Kinds.{Kinds, monitored, outputs, side_kinds, defined_kinds, section_of}
-use Rattle.ft_core.specs.Grids.{defines, is_section, is_for}
-use Rattle.ft_core.specs.Reads.{Read, at_now, at_before, of_memory, of_age, memory_reads, grid_reads}
-use Rattle.ft_core.specs.Sound.{side_of, is_side, on_side, now_of, may_read, is_current, item_reads, IsRank, HasOrder, is_sound_memory}
+use Rattle.ft_core.specs.Grids.{cells_for, defines, is_section, is_for}
+use Rattle.ft_core.specs.Reads.{Read, at_now, at_before, of_memory, of_age, memory_reads, grid_reads, cell_reads}
+use Rattle.ft_core.specs.Sound.{side_of, is_side, on_side, now_of, may_read, is_current, item_reads, IsRank, HasOrder, IsHold}
 use Rattle.ft_mean.specs.Reading.{IsVar}
 
 -- the table at this place, where it is of this section
@@ -58,14 +58,16 @@ MayRead S section.Out r = NowOf S outputs r
 pub record IsOrder (S : Tables) (rank : Read → ℕ) : Type 0 where
   pub bounded : (r : Read) → rank r < length S.vars + length S.memories
   pub tables : (s : Side) (k : ℕ) (table : Table) (x : ℕ) (r : Read) → IsTable S (section_of s) k table → IsTrue (defines table.grid x)
-      → Contains (grid_reads table.grid) r → IsTrue (is_current r) → rank r < rank (at_now x)
+      → Contains (flat_map cell_reads (cells_for x table.grid)) r → IsTrue (is_current r) → rank r < rank (at_now x)
   pub memories : (m : ℕ) (r : Read) → Contains (memory_reads (slice_get S.memories m)) r → IsTrue (is_current r) → rank r < rank (of_memory m)
 
+-- a timer has a hold, and the bounds of a band lie apart
 abbrev pub IsSoundMemory : Memory → Type 0
-IsSoundMemory (Held name s cond hold) = ⊤
+IsSoundMemory (Held name s cond hold) = IsHold hold
 IsSoundMemory (Hyst name s e lo hi start) = lo <ℤ hi
 
 pub record IsWellFormed (S : Tables) : Type 0 where
+  pub goes_on : pos 0 ≤ℤ S.period
   pub inits : (x : ℕ) (v : Var) → slice_get S.vars x ≡ Some v → IsWithin v.range v.init
   pub sound : (m : ℕ) (memory : Memory) → slice_get S.memories m ≡ Some memory → IsSoundMemory memory
   pub tables_read : (k : ℕ) (table : Table) (r : Read) → slice_get S.tables k ≡ Some table → Contains (grid_reads table.grid) r
@@ -148,10 +150,6 @@ module _ (S : Tables) where
       (λ more. let at = any_table section x tables more in (suc at.0, at.1, at.2, at.3))
       (or_cases (is_for section x t) (list_any (is_for section x) tables) e)
 
-  memory_sound : (memory : Memory) → is_sound_memory memory ≡ true → IsSoundMemory memory
-  memory_sound (Held name s c hold) e = tt
-  memory_sound (Hyst name s e lo hi start) h = grind (arith, ints)
-
 -- the greatest number over a list of reads
 abbrev greatest : (Read → ℕ) → List Read → ℕ
 greatest f [] = zero
@@ -222,8 +220,12 @@ module _ (vars : List Var) (memories : List Memory) (tables : List Table) where
 
 pub opened : (S : Tables) → IsWellFormed S
 opened S = let h = S.sound in record {
+  goes_on = omega (arith, ints, h.has_period.0);
   inits = h.inits;
-  sound = λ m memory is. memory_sound S memory (h.memories_sound m memory is);
+  sound = λ m memory is. elim memory as (λ (x : Memory). slice_get S.memories m ≡ Some x → IsSoundMemory x) [
+    | Held name s c hold ↦ λ e. h.timers m name s c hold e
+    | Hyst name s e lo hi start ↦ λ there. h.bands m name s e lo hi start there
+  ] is;
   tables_read = λ k table r is c. read_test S table.section r (h.tables_read k table r is c);
   memories_read = λ m memory r is c. side_test S (side_of memory) r (h.memories_read m memory r is c);
   has_table = λ section x v is.
@@ -235,8 +237,8 @@ opened S = let h = S.sound in record {
   order = let rank = ranked S.vars S.memories S.tables h.order in record {
     bounded = rank.bounded;
     tables = λ s k table x r is d c now. rank.falls (at_now x) r
-        (read_at (λ (t : Table). cond (is_for section.Req x t || is_for section.Sof x t) (grid_reads t.grid) []) S.tables k table r is.0
-        (subst (λ b. Contains (cond b (grid_reads table.grid) []) r) (sym (of_side s x table (is_for_from (section_of s) x table is.1 d))) c)) now;
+        (read_at (λ (t : Table). cond (is_for section.Req x t || is_for section.Sof x t) (flat_map cell_reads (cells_for x t.grid)) []) S.tables k table r is.0
+        (subst (λ b. Contains (cond b (flat_map cell_reads (cells_for x table.grid)) []) r) (sym (of_side s x table (is_for_from (section_of s) x table is.1 d))) c)) now;
     memories = λ m r c now. rank.falls (of_memory m) r c now;
   };
 }

@@ -3,8 +3,11 @@ pub mod Cells
 pub mod Fits
 pub mod Laws
 pub mod Memory
+pub mod Moves
+pub mod Part
 pub mod Past
 pub mod Proper
 pub mod Reading
 pub mod Refines
+pub mod Seen
 pub mod Value

@@ -1,5 +1,5 @@
 -- What a timer and a band say at scan t of the scans from `from` to t, by looking back.
-use Rattle.std.specs.Prelude.{ℕ, suc, ◌-◌, ℤ, negsuc, int_le, Bool, ◌&&◌, ◌||◌, List, reverse, Option, Some, None}
+use Rattle.std.specs.Prelude.{ℕ, suc, ◌-◌, ℤ, negsuc, int_le, Bool, ◌&&◌, ◌||◌, List, reverse, Some, None}
 use Rattle.std.specs.List.{list_any, list_all, find, range_with_len}
 use Rattle.std.specs.Int.{int_min}
 

@@ -1,5 +1,5 @@
 -- Proper tables: whatever a table reads, exactly one cell holds for each variable. Source: Parnas's proper tables.
-use Rattle.std.specs.Prelude.{ℕ, zero, suc, ◌≡◌, ℤ, int_le, List, length, IsTrue, IsFalse, slice_get, Option, Some, None}
+use Rattle.std.specs.Prelude.{ℕ, zero, suc, ◌≡◌, ℤ, int_le, List, length, IsTrue, IsFalse, slice_get, Some}
 use Rattle.std.specs.List.{All, Contains}
 use Rattle.ft_base.specs.Interval.{IsWithin}
 use Rattle.ft_core.specs.declared.tables.Tables.{Tables}

@@ -1,3 +1,2 @@
-pub mod AgeLemmas
-pub mod HeldLemmas
-pub mod SideLemmas
+pub mod BandLemmas
+pub mod TimerLemmas

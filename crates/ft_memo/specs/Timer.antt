@@ -1,6 +1,6 @@
 -- What a timer says at the last scan of a list of truths, one a scan.
-use Rattle.std.specs.Prelude.{ℕ, ◌-◌, ◌≡◌, ◌≤◌, ◌↔◌, ℤ, pos, negsuc, ◌*ℤ◌, ◌≤ℤ◌, Bool, false, List, [], ◌∷◌, length, slice_index_or, IsTrue}
-use Rattle.ft_base.specs.Interval.{IsWithin}
+use Rattle.std.specs.Prelude.{ℕ, ◌-◌, ◌≡◌, ℤ, pos, negsuc, ◌*ℤ◌, Bool, false, List, [], ◌∷◌, length, slice_index_or}
+use Rattle.ft_core.specs.Sound.{IsHold, IsPeriod}
 use Rattle.ft_mean.specs.Past.{held, age}
 
 -- a timer as its callers see it: its hold and the time from scan to scan in milliseconds, and the truth at each scan so far
@@ -8,14 +8,6 @@ pub record Timed : Type 0 where
   pub hold : ℤ
   pub period : ℤ
   pub truths : List Bool
-
--- a hold is 0 to 1,000,000 ms
-abbrev pub IsHold : ℤ → Type 0
-IsHold = IsWithin (pos 0, pos 1000000)
-
--- a period is 1 to 10,000 ms
-abbrev pub IsPeriod : ℤ → Type 0
-IsPeriod = IsWithin (pos 1, pos 10000)
 
 -- the truth at each scan of the list
 abbrev pub truth_at : List Bool → ℕ → Bool
@@ -39,8 +31,3 @@ pub record IsRunning (hold period : ℤ) (truths : List Bool) (running : ℤ) : 
   pub has_hold : IsHold hold
   pub has_period : IsPeriod period
   pub is_age : running ≡ age_after hold period truths
-
--- where what lies further back is no less long ago, a condition has been held exactly where its age is the hold
-abbrev pub HeldIsFullAge : Type 0
-HeldIsFullAge = (from : ℕ) (ago : ℕ → ℤ) (hold : ℤ) (condition : ℕ → Bool) (t : ℕ) → ((j k : ℕ) → j ≤ k → ago k ≤ℤ ago j) → pos 0 ≤ℤ hold
-    → IsTrue (held from ago hold condition t) ↔ (age from ago hold condition t ≡ hold)

@@ -2,12 +2,10 @@
 #![tactic(auto)]
 
 mod band;
-mod law;
 mod timer;
 mod told;
 
 pub use band::Band;
-pub use law::held_is_full_age;
 pub use timer::Timer;
 
 #[cfg(test)]

@@ -1,6 +1,7 @@
 ghost use Rattle.std.specs.Prelude.{◌≡◌, ◌++◌, [], ◌∷◌, ◌≤ℤ◌, ◌+ℤ◌, pos, negsuc, int_le, if◌then◌else◌};
 ghost use Rattle.std.specs.Int.{int_min};
-ghost use Rattle.ft_memo.specs.Timer.{IsHold, IsPeriod, held_after, age_after};
+ghost use Rattle.ft_core.specs.Sound.{IsHold, IsPeriod};
+ghost use Rattle.ft_memo.specs.Timer.{held_after, age_after};
 
 use crate::told::Told;
 use std::marker::Model;

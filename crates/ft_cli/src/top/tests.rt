@@ -10,7 +10,7 @@ use ft_port::{MemShelf, MemSink};
 use std::alloc::Global;
 use std::test::Fail;
 
-const USAGE: &[u8] = b"usage: ftv verify F\n";
+const USAGE: &[u8] = b"usage: ftv verify F, print F\n";
 
 const VERIFIED: &[u8] =
     b"verified\nset small variables 4 tables 4 blocks 1 obligations 14\nnat list:\nx\n0\n0\n0\n0\n";
@@ -125,11 +125,13 @@ fn answers_without_a_verdict(rt: HostRuntime) -> Result<(), Fail> {
         ..empty
     };
     let verify = ["verify", "f"].as_slice();
+    let print = ["print", "f"].as_slice();
     let rows = [
         (&[] as &[&str], empty, 4, USAGE),
         (&["verify"], empty, 4, USAGE),
         (&["verify", "a", "b"], empty, 4, USAGE),
-        (&["print", "x"], empty, 4, USAGE),
+        (&["print"], empty, 4, USAGE),
+        (&["print", "a", "b"], empty, 4, USAGE),
         (&["Verify", "x"], empty, 4, USAGE),
         (verify, missing, 5, b"read fault\n"),
         (verify, failing, 5, b"read fault\n"),
@@ -138,6 +140,11 @@ fn answers_without_a_verdict(rt: HostRuntime) -> Result<(), Fail> {
         (verify, longest, 3, b"refused\nnot built\n"),
         (verify, empty, 3, b"refused\nnot built\n"),
         (verify, cut, 6, b"ref"),
+        (print, missing, 5, b"read fault\n"),
+        (print, failing_later, 3, b"refused\nSyntax at 1:1\n"),
+        (print, too_long, 10, b"too long: set\n"),
+        (print, longest, 3, b"refused\nSyntax at 1:4194305\n"),
+        (print, cut, 6, b"ref"),
         (&["verify"], cut, 6, b"usa"),
     ];
     for (words, world, status, text) in rows {
@@ -256,6 +263,84 @@ fn judges_small_sets(rt: HostRuntime) -> Result<(), Fail> {
         assert_eq!(rt; found, status);
         assert_eq!(rt; taken.as_slice(), wanted);
     }
+    Ok(())
+}
+
+/// What `print` answers on a file with this text.
+fn print_of(alloc: Global, text: &[u8]) -> Result<(u8, Text), NoMemory> {
+    let world = World {
+        content: Some(text),
+        reads: &[],
+        writes: &[],
+    };
+    answer(alloc, &["print", "small.ftv"], world)
+}
+
+#[test]
+fn prints_trees(rt: HostRuntime) -> Result<(), Fail> {
+    let alloc = rt.alloc();
+    let rows = [
+        (
+            b"set a;period 050 ms;mon x:0..9 init 0; # c\n".as_slice(),
+            0,
+            b"set a;\nperiod 50 ms;\nmon x : 0..9 init 0;\n".as_slice(),
+        ),
+        (
+            b"set a; period 1 ms;\nnat first a - (b - c) = (a - b) - c;",
+            0,
+            b"set a;\nperiod 1 ms;\nnat first a - (b - c) = a - b - c;\n",
+        ),
+        (
+            b"set a;\nperiod 1 ms;\nreq normal c {\n",
+            3,
+            b"refused\nSyntax at 4:1\n",
+        ),
+        (b"set a;\n$", 3, b"refused\nSyntax at 2:1\n"),
+        (
+            b"set a; period 1000000001 ms;",
+            3,
+            b"refused\nLimit number at 1:15\n",
+        ),
+    ];
+    for (text, status, wanted) in rows {
+        let (found, taken) = print_of(alloc, text)?;
+        assert_eq!(rt; found, status);
+        assert_eq!(rt; taken.as_slice(), wanted);
+    }
+    Ok(())
+}
+
+/// A set with a clause in so many parentheses.
+fn in_parentheses(alloc: Global, count: usize) -> Result<Text, NoMemory> {
+    let mut text = List::copy_of(alloc, b"set a; period 1 ms; nat first ")?;
+    for _open in 0..count {
+        text.push(b'(')?;
+    }
+    text.push(b'x')?;
+    for _close in 0..count {
+        text.push(b')')?;
+    }
+    text.push(b';')?;
+    Ok(text)
+}
+
+#[test]
+fn prints_nested_parentheses(rt: HostRuntime) -> Result<(), Fail> {
+    let alloc = rt.alloc();
+    let within = in_parentheses(alloc, 64)?;
+    let (found, taken) = print_of(alloc, within.as_slice())?;
+    assert_eq!(rt; found, 0);
+    assert_eq!(rt;
+        taken.as_slice(),
+        b"set a;\nperiod 1 ms;\nnat first x;\n".as_slice()
+    );
+    let beyond = in_parentheses(alloc, 65)?;
+    let (found, taken) = print_of(alloc, beyond.as_slice())?;
+    assert_eq!(rt; found, 3);
+    assert_eq!(rt;
+        taken.as_slice(),
+        b"refused\nLimit nesting at 1:95\n".as_slice()
+    );
     Ok(())
 }
 

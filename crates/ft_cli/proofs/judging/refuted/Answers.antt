@@ -1,4 +1,4 @@
-use Rattle.std.proofs.Common.{◌≡◌, sym, ap, subst, refl, rules, w64, FitsSigned, length}
+use Rattle.std.proofs.Common.{◌≡◌, sym, ap, subst, refl, w64, FitsSigned, length}
 use Rattle.std.proofs.lemmas.Int.{to_z-of_z}
 use Rattle.ft_mean.specs.Refines.{FirstDiffers}
 use Rattle.ft_cli.specs.Verdict.{steady}

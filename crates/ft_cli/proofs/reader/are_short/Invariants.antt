@@ -1,7 +1,6 @@
 use Rattle.std.proofs.Common.{◌≡◌, true, take}
 use Rattle.std.specs.List.{list_all}
-use Rattle.ft_cli.specs.Lexeme.{lexeme_of}
-use Rattle.ft_cli.specs.Form.{is_short}
+use Rattle.ft_cli.specs.Lexeme.{is_short, lexeme_of}
 use Rattle.ft_cli.proofs.reader.are_short.Given as goal
 
 abbrev pub invariant-loop-token : goal.invariant-loop-token

@@ -1,5 +1,5 @@
-use Rattle.std.proofs.Common.{sym, subst, ap, ◌∙◌}
-use Rattle.ft_cli.specs.Verdict.{IsImproperOn, defined_in, read_in, rows_in}
+use Rattle.std.proofs.Common.{subst, ap, ◌∙◌}
+use Rattle.ft_cli.specs.Verdict.{IsImproperOn, defined_in, read_in}
 use Rattle.ft_cli.specs.Form.{bounds_of}
 use Rattle.ft_cli.proofs.verdict.is_proper_in.Goals as goal
 

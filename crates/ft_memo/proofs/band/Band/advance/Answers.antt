@@ -1,7 +1,7 @@
 use Rattle.std.proofs.Common.{rules, ◌≡◌, FitsSigned, w64}
 use Rattle.std.proofs.lemmas.Int.{to_z-of_z}
 use Rattle.ft_memo.specs.Band.{hyst_after}
-use Rattle.ft_memo.proofs.SideLemmas.{side_goes_on}
+use Rattle.ft_memo.proofs.BandLemmas.{side_goes_on}
 use Rattle.ft_memo.proofs.band.Band.advance.Goals as goal
 
 -- the bit is that of the longer list

@@ -1,8 +1,7 @@
 use Rattle.std.proofs.Common.{rules, arith, pos, ◌≤ℤ◌, ◌≡◌, FitsSigned, w64}
 use Rattle.std.proofs.lemmas.Int.{ints, to_z-of_z}
 use Rattle.ft_memo.specs.Timer.{age_after}
-use Rattle.ft_memo.proofs.AgeLemmas.{age_goes_on}
-use Rattle.ft_memo.proofs.HeldLemmas.{age_tells}
+use Rattle.ft_memo.proofs.TimerLemmas.{age_goes_on, age_tells}
 use Rattle.ft_memo.proofs.timer.Timer.advance.Goals as goal
 
 -- the age is that of the longer list
@@ -13,8 +12,8 @@ is_age c =
     let age_fits : FitsSigned w64 c.self.inside.age = search rules in
     let up : pos 0 ≤ℤ c.self.inside.period = omega (arith, ints, c.self.invariant.has_period.0) in
     let goes_on = simp to_z-of_z at c.next_age-age.ensures in
-    age_goes_on c.self.inside.hold c.self.inside.period c.self.inside.past.items c.with-self-inside.result.items c.args.now c.self.inside.age
-    c.next_age-age.result c.self.invariant.has_hold.0 up c.self.invariant.is_age goes_on c.with-self-inside.ensures
+    age_goes_on c.self.inside.hold c.self.inside.period c.self.invariant.has_hold.0 up c.self.inside.past.items c.with-self-inside.result.items c.args.now
+    c.self.inside.age c.next_age-age.result c.self.invariant.is_age goes_on c.with-self-inside.ensures
 
 pub invariant_of-self : goal.invariant_of-self
 invariant_of-self c =

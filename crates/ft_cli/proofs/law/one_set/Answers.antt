@@ -1,0 +1,5 @@
+use Rattle.ft_cli.proofs.OneSetLemmas.{one_set}
+use Rattle.ft_cli.proofs.law.one_set.Goals as goal
+
+pub returns : goal.returns
+returns c = one_set

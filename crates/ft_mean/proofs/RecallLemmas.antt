@@ -1,0 +1,163 @@
+-- Looking back over scans, one at a time.
+use Rattle.std.proofs.Common.{◌≡◌, ◌∙◌, sym, ap, refl, ℕ, zero, suc, ◌+◌, ◌-◌, ◌<◌, ◌≤◌, ℤ, Bool, true, false, cond, ◌&&◌, ◌||◌, List, [], ◌∷◌, ◌++◌, map, take, length, min, slice_index_or, arith, ⊎_elim, true≢false}
+use Rattle.std.specs.Prelude.{int_le, reverse}
+use Rattle.std.specs.List.{Contains, list_all, list_any, zip, range_with_len}
+use Rattle.ft_core.specs.declared.tables.Tables.{Tables}
+use Rattle.ft_mean.specs.declared.seen.Seen.{Seen}
+use Rattle.ft_mean.specs.Seen.{CanTell, recalled_at, after_rounds}
+use Rattle.ft_core.specs.declared.tables.Var.{Var}
+use Rattle.ft_core.specs.declared.tables.Memory.{Memory}
+use Rattle.ft_mean.proofs.TellLemmas.{can_again}
+use Rattle.std.proofs.lemmas.List.{map-append}
+use Rattle.std.proofs.lemmas.Bool.{cases_lt, or_left, or_right}
+use Rattle.std.proofs.lemmas.List.Folds.{list_all-append, list_any-append}
+use Rattle.ft_mean.proofs.PastLemmas.{range_more, band, band_next}
+
+module _ (p : ℕ → Bool) where
+  -- one more scan at which it is true
+  pub all_next : (a k : ℕ) → a ≤ k → list_all p (range_with_len a (k - a)) ≡ true → p k ≡ true → list_all p (range_with_len a (k + 1 - a)) ≡ true
+  all_next a k low h here =
+      let more : k + 1 - a ≡ suc (k - a) = omega (arith, low) in
+      let last : a + (k - a) ≡ k = omega (arith, low) in
+      ap (λ n. list_all p (range_with_len a n)) more ∙ ap (list_all p) (range_more a (k - a)) ∙ list_all-append p (range_with_len a (k - a)) ((a + (k - a)) ∷ [])
+      ∙ (λ i. h i && ((ap p last ∙ here) i && true))
+
+  -- one scan at which it is false
+  pub all_not : (a n k : ℕ) → a ≤ k → k < a + n → p k ≡ false → list_all p (range_with_len a n) ≡ false
+  all_not a zero k low high h = absurd (omega (arith, low, high))
+  all_not a (suc n) k low high h = ⊎_elim
+      (λ less. dropped (p a) (all_not (a + 1) n k (omega (arith, less)) (omega (arith, high)) h))
+      (λ most. let is : a ≡ k = omega (arith, low, most) in λ i. (ap p is ∙ h) i && list_all p (range_with_len (a + 1) n))
+      (cases_lt a k)
+    where
+      dropped : (b : Bool) {c : Bool} → c ≡ false → (b && c) ≡ false
+      dropped true e = e
+      dropped false e = refl
+
+  pub through_next : (k : ℕ) → list_all p (range_with_len 0 k) ≡ true → p k ≡ true → list_all p (range_with_len 0 (k + 1)) ≡ true
+  through_next k h here =
+      let now : k - 0 ≡ k = omega arith in
+      let more : k + 1 - 0 ≡ k + 1 = omega arith in
+      sym (ap (λ n. list_all p (range_with_len 0 n)) more) ∙ all_next 0 k (omega arith) (ap (λ n. list_all p (range_with_len 0 n)) now ∙ h) here
+
+  pub none_next : (k : ℕ) → list_any p (range_with_len 0 k) ≡ false → p k ≡ false → list_any p (range_with_len 0 (k + 1)) ≡ false
+  none_next k h here =
+      let more : k + 1 ≡ suc k = omega arith in
+      let last : 0 + k ≡ k = omega arith in
+      ap (λ n. list_any p (range_with_len 0 n)) more ∙ ap (list_any p) (range_more 0 k) ∙ list_any-append p (range_with_len 0 k) ((0 + k) ∷ [])
+      ∙ (λ i. h i || ((ap p last ∙ here) i || false))
+
+  pub some_at : (a n k : ℕ) → a ≤ k → k < a + n → p k ≡ true → list_any p (range_with_len a n) ≡ true
+  some_at a zero k low high h = absurd (omega (arith, low, high))
+  some_at a (suc n) k low high h = ⊎_elim
+      (λ less. or_right (p a) (list_any p (range_with_len (a + 1) n)) (some_at (a + 1) n k (omega (arith, less)) (omega (arith, high)) h))
+      (λ most. let is : a ≡ k = omega (arith, low, most) in or_left (p a) (list_any p (range_with_len (a + 1) n)) (ap p is ∙ h))
+      (cases_lt a k)
+
+module _ (lo hi : ℤ) (start : Bool) (e : ℕ → ℤ) where
+  -- the last scan of those that are left
+  pub band_last : (k back : ℕ) → back < suc k → band lo hi start e (reverse (range_with_len 0 (suc k - back)))
+      ≡ cond (int_le hi (e (k - back)) || int_le (e (k - back)) lo) (int_le hi (e (k - back))) (band lo hi start e (reverse (range_with_len 0 (suc k - (back + 1)))))
+  band_last k back low =
+      let whole : suc k - back ≡ suc (k - back) = omega (arith, low) in
+      let rest : k - back ≡ suc k - (back + 1) = omega (arith, low) in
+      let last : 0 + (k - back) ≡ k - back = omega arith in
+      ap (λ n. band lo hi start e (reverse (range_with_len 0 n))) whole ∙ band_next lo hi start e 0 (k - back)
+      ∙ (λ i. cond (int_le hi (e (last i)) || int_le (e (last i)) lo) (int_le hi (e (last i))) (band lo hi start e (reverse (range_with_len 0 (rest i)))))
+
+  pub band_up : (k back : ℕ) → back < suc k → int_le hi (e (k - back)) ≡ true → band lo hi start e (reverse (range_with_len 0 (suc k - back))) ≡ true
+  band_up k back low up = band_last k back low ∙ (λ i. cond (up i || int_le (e (k - back)) lo) (up i) (band lo hi start e (reverse (range_with_len 0 (suc k - (back + 1))))))
+
+  pub band_down : (k back : ℕ) → back < suc k → int_le hi (e (k - back)) ≡ false → int_le (e (k - back)) lo ≡ true
+      → band lo hi start e (reverse (range_with_len 0 (suc k - back))) ≡ false
+  band_down k back low up down = band_last k back low ∙ (λ i. cond (up i || down i) (up i) (band lo hi start e (reverse (range_with_len 0 (suc k - (back + 1))))))
+
+  pub band_between : (k back : ℕ) → back < suc k → int_le hi (e (k - back)) ≡ false → int_le (e (k - back)) lo ≡ false
+      → band lo hi start e (reverse (range_with_len 0 (suc k - back))) ≡ band lo hi start e (reverse (range_with_len 0 (suc k - (back + 1))))
+  band_between k back low up down = band_last k back low ∙ (λ i. cond (up i || down i) (up i) (band lo hi start e (reverse (range_with_len 0 (suc k - (back + 1))))))
+
+-- a list of what is made for each number goes on by one
+pub made_next : {A : Type 0} (f : ℕ → A) (made longer : List A) (k : ℕ) (item : A) → made ≡ map f (range_with_len 0 k) → item ≡ f k → longer ≡ made ++ item ∷ []
+    → longer ≡ map f (range_with_len 0 (k + 1))
+made_next f made longer k item is here goes_on =
+    let more : k + 1 ≡ suc k = omega arith in
+    let last : 0 + k ≡ k = omega arith in
+    goes_on ∙ (λ i. is i ++ here i ∷ []) ∙ sym (ap (λ n. map f (range_with_len 0 n)) more ∙ ap (map f) (range_more 0 k) ∙ map-append f (range_with_len 0 k) ((0 + k) ∷ []) ∙ ap (λ n. map f (range_with_len 0 k) ++ f n ∷ []) last)
+
+-- one more round
+pub round_next : (S : Tables) (start seen : Seen) (k : ℕ) (bits : List (List Bool)) → seen ≡ after_rounds S k start
+    → bits ≡ map (recalled_at S seen) (range_with_len 0 (length seen.rows)) → record { rows = seen.rows; past = seen.past; bits = bits } ≡ after_rounds S (k + 1) start
+round_next S start seen k bits is here =
+    let more : k + 1 ≡ suc k = omega arith in
+    (λ i. record { rows = seen.rows; past = seen.past; bits = here i })
+    ∙ (λ i. record { rows = (is i).rows; past = (is i).past; bits = map (recalled_at S (is i)) (range_with_len 0 (length (is i).rows)) })
+    ∙ sym (ap (λ n. after_rounds S n start) more)
+
+module _ (S : Tables) (start : Seen) where
+  -- rounds change the truths of memories alone
+  pub rows_kept : (k : ℕ) → (after_rounds S k start).rows ≡ start.rows
+  rows_kept zero = refl
+  rows_kept (suc k) = rows_kept k
+
+  pub past_kept : (k : ℕ) → (after_rounds S k start).past ≡ start.past
+  past_kept zero = refl
+  past_kept (suc k) = past_kept k
+
+  pub can_after : {test : List Var → List Memory → Bool} (k : ℕ) → CanTell start test → CanTell (after_rounds S k start) test
+  can_after k h = can_again h (rows_kept k) (past_kept k)
+
+  pub rounds_join : (m n : ℕ) → after_rounds S m (after_rounds S n start) ≡ after_rounds S (m + n) start
+  rounds_join zero n = let none : n ≡ 0 + n = omega arith in ap (λ k. after_rounds S k start) none
+  rounds_join (suc m) n =
+      let more : suc (m + n) ≡ suc m + n = omega arith in
+      ap (λ (p : Seen). record { rows = p.rows; past = p.past; bits = map (recalled_at S p) (range_with_len 0 (length p.rows)) }) (rounds_join m n)
+      ∙ ap (λ k. after_rounds S k start) more
+
+-- two lists, side by side
+module _ {A B : Type 0} (p : A × B → Bool) where
+  pub pair_next : (xs : List A) (ys : List B) (k : ℕ) (x : A) (y : B) → k < length xs → k < length ys → slice_index_or xs k x ≡ x → slice_index_or ys k y ≡ y
+      → list_any p (take k (zip xs ys)) ≡ false → p (x, y) ≡ false → list_any p (take (suc k) (zip xs ys)) ≡ false
+  pair_next [] ys k x y lx ly ex ey past here = refl
+  pair_next (a ∷ xs) [] k x y lx ly ex ey past here = refl
+  pair_next (a ∷ xs) (b ∷ ys) zero x y lx ly ex ey past here = (λ i. p (ex i, ey i) || false) ∙ ap (λ z. z || false) here
+  pair_next (a ∷ xs) (b ∷ ys) (suc k) x y lx ly ex ey past here =
+      let both = or_parts (p (a, b)) past in
+      (λ i. both.0 i || pair_next xs ys k x y (omega (arith, lx)) (omega (arith, ly)) ex ey both.1 here i)
+    where
+      or_parts : (b : Bool) {c : Bool} → (b || c) ≡ false → (b ≡ false) × (c ≡ false)
+      or_parts true e = absurd (true≢false e)
+      or_parts false e = (refl, e)
+
+  pub pair_at : (xs : List A) (ys : List B) (k : ℕ) (x : A) (y : B) → k < length xs → k < length ys → slice_index_or xs k x ≡ x → slice_index_or ys k y ≡ y
+      → p (x, y) ≡ true → list_any p (zip xs ys) ≡ true
+  pair_at [] ys k x y lx ly ex ey here = absurd (omega (arith, lx))
+  pair_at (a ∷ xs) [] k x y lx ly ex ey here = absurd (omega (arith, ly))
+  pair_at (a ∷ xs) (b ∷ ys) zero x y lx ly ex ey here = or_left (p (a, b)) (list_any p (zip xs ys)) ((λ i. p (ex i, ey i)) ∙ here)
+  pair_at (a ∷ xs) (b ∷ ys) (suc k) x y lx ly ex ey here =
+      or_right (p (a, b)) (list_any p (zip xs ys)) (pair_at xs ys k x y (omega (arith, lx)) (omega (arith, ly)) ex ey here)
+
+  pub pair_end : (xs : List A) (ys : List B) (k : ℕ) → min (length xs) (length ys) ≤ k → list_any p (take k (zip xs ys)) ≡ false → list_any p (zip xs ys) ≡ false
+  pair_end [] ys k low h = refl
+  pair_end (a ∷ xs) [] k low h = refl
+  pair_end (a ∷ xs) (b ∷ ys) zero low h = absurd (omega (arith, low))
+  pair_end (a ∷ xs) (b ∷ ys) (suc k) low h = or_again (p (a, b)) h (λ rest. pair_end xs ys k (omega (arith, low)) rest)
+    where
+      or_again : (b : Bool) {c d : Bool} → (b || c) ≡ false → (c ≡ false → d ≡ false) → (b || d) ≡ false
+      or_again true e f = e
+      or_again false e f = f e
+
+-- a test over a list, at an item and at its end
+module _ {A : Type 0} (p : A → Bool) where
+  pub any_in : (xs : List A) (a : A) → Contains xs a → p a ≡ true → list_any p xs ≡ true
+  any_in [] a c h = absurd (omega (arith, c.1))
+  any_in (x ∷ xs) a (zero, low, is) h = or_left (p x) (list_any p xs) (ap p is ∙ h)
+  any_in (x ∷ xs) a (suc k, low, is) h = or_right (p x) (list_any p xs) (any_in xs a (k, omega (arith, low), is) h)
+
+  pub any_end : (xs : List A) (k : ℕ) → length xs ≤ k → list_any p (take k xs) ≡ false → list_any p xs ≡ false
+  any_end [] k low h = refl
+  any_end (x ∷ xs) zero low h = absurd (omega (arith, low))
+  any_end (x ∷ xs) (suc k) low h = or_again (p x) h (λ rest. any_end xs k (omega (arith, low)) rest)
+    where
+      or_again : (b : Bool) {c d : Bool} → (b || c) ≡ false → (c ≡ false → d ≡ false) → (b || d) ≡ false
+      or_again true e f = e
+      or_again false e f = f e

@@ -1,0 +1,13 @@
+use Rattle.ft_mean.proofs.TellLemmas.{can_again}
+use Rattle.ft_mean.proofs.RecallLemmas.{round_next}
+use Rattle.ft_mean.proofs.recall.recall.Goals as goal
+
+pub recalled_rows-requires : goal.recalled_rows-requires
+recalled_rows-requires c = can_again c.requires c.loop-round.invariant.1 c.loop-round.invariant.2
+
+pub loop-round-preserved : goal.loop-round-preserved
+loop-round-preserved c = (
+  round_next c.args.tables.now c.args.start c.loop-round.seen c.loop-round._round c.in_ok-seen.field-0 c.loop-round.invariant.0 c.in_ok-seen.ensures,
+  c.loop-round.invariant.1,
+  c.loop-round.invariant.2,
+)

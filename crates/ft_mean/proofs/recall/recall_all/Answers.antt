@@ -1,0 +1,15 @@
+use Rattle.std.proofs.Common.{◌∙◌, sym, ap, subst, ◌+◌}
+use Rattle.ft_mean.specs.declared.seen.Seen.{Seen}
+use Rattle.ft_mean.specs.Seen.{CanMemories, after_rounds}
+use Rattle.ft_mean.proofs.RecallLemmas.{can_after, rounds_join}
+use Rattle.ft_mean.proofs.recall.recall_all.Goals as goal
+
+pub recall-requires-2 : goal.recall-requires-2
+recall-requires-2 c =
+    subst (λ (seen : Seen). CanMemories seen c.args.tables.now.memories) (sym c.in_ok-half.ensures) (can_after c.args.tables.now c.args.start c.len.result c.requires)
+
+pub returns : goal.returns
+returns c =
+    c.in_ok-seen.ensures ∙ ap (after_rounds c.args.tables.now c.len-2.result) c.in_ok-half.ensures
+    ∙ rounds_join c.args.tables.now c.args.start c.len-2.result c.len.result
+    ∙ (λ i. after_rounds c.args.tables.now (c.len-2.ensures i + c.len.ensures i) c.args.start)

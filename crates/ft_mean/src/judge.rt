@@ -1,0 +1,185 @@
+//! The plain and slow judge of a whole trace.
+ghost use Rattle.std.specs.Prelude.{◌≡◌, ◌<◌, ◌↔◌, length, IsTrue, IfOk};
+ghost use Rattle.ft_core.specs.Kinds.{section_of};
+ghost use Rattle.ft_mean.specs.Fits.{Fits};
+ghost use Rattle.ft_mean.specs.Part.{kinds_of, is_inside, in_range, is_row, is_list, are_lists};
+ghost use Rattle.ft_mean.specs.Part.{at_all, has_given, has_table, is_right, follows_by};
+ghost use Rattle.ft_mean.specs.Seen.{CanTables};
+
+use crate::cells::is_defined;
+use crate::part::{Part, count_of, is_of, told};
+use crate::recall::recall_all;
+use crate::seen::Seen;
+use crate::telling::seen_of;
+use crate::trace::Trace;
+use ft_base::NoMemory;
+use ft_core::{History, Section, Side, Tables};
+use std::alloc::Global;
+
+fn is_inside(tables: &Tables, variable: usize, value: i64) -> bool
+    ensures { result ≡ is_inside tables.now variable value }
+{
+    match tables.vars.as_slice().get(variable) {
+        Some(var) => var.range.lo() <= value && value <= var.range.hi(),
+        None => true,
+    }
+}
+
+fn in_range(tables: &Tables, part: Part, scans: &History, scan: usize, variable: usize) -> bool
+    ensures { result ≡ in_range tables.now (kinds_of part) scans.now scan variable }
+{
+    !is_of(tables, part, variable)
+        || is_inside(tables, variable, told(tables, part, scans, scan, variable))
+}
+
+fn are_in_range(tables: &Tables, part: Part, scans: &History, scan: usize) -> bool
+    ensures { result ≡ at_all tables.now (in_range tables.now (kinds_of part) scans.now scan) }
+{
+    for variable in 0..tables.vars.len() {
+        if !in_range(tables, part, scans, scan, variable) {
+            return false;
+        }
+    }
+    true
+}
+
+fn is_row(tables: &Tables, part: Part, scans: &History, scan: usize) -> bool
+    requires { scan < length scans.now }
+    ensures { result ≡ is_row tables.now (kinds_of part) scans.now scan }
+{
+    scans.width(scan) == count_of(part, tables.vars.as_slice())
+        && are_in_range(tables, part, scans, scan)
+}
+
+/// Whether each scan has a value in range for each variable of a part, and no other value.
+fn is_list(tables: &Tables, part: Part, scans: &History) -> bool
+    ensures { result ≡ is_list tables.now (kinds_of part) scans.now }
+{
+    for scan in 0..scans.scans() {
+        if !is_row(tables, part, scans, scan) {
+            return false;
+        }
+    }
+    true
+}
+
+fn has_given(
+    tables: &Tables,
+    side: Side,
+    given: &History,
+    trace: &Trace,
+    scan: usize,
+    variable: usize,
+) -> bool
+    ensures { result ≡ has_given tables.now side given.now trace.now scan variable }
+{
+    !is_of(tables, Part::Given(side), variable)
+        || told(tables, Part::Whole(side), trace, scan, variable)
+            == told(tables, Part::Given(side), given, scan, variable)
+}
+
+fn section_of(side: Side) -> Section
+    ensures { result ≡ section_of side }
+{
+    match side {
+        Side::Req => Section::Req,
+        Side::Sof => Section::Sof,
+    }
+}
+
+fn has_table(
+    tables: &Tables,
+    side: Side,
+    trace: &Trace,
+    seen: &Seen,
+    scan: usize,
+    variable: usize,
+) -> bool
+    requires { CanTables seen.now tables.now.tables }
+    ensures { result ≡ has_table tables.now side trace.now seen.now scan variable }
+{
+    !is_of(tables, Part::Defined(side), variable)
+        || is_defined(
+            tables,
+            section_of(side),
+            variable,
+            seen,
+            scan,
+            told(tables, Part::Whole(side), trace, scan, variable),
+        )
+}
+
+fn is_right(
+    tables: &Tables,
+    side: Side,
+    given: &History,
+    trace: &Trace,
+    seen: &Seen,
+    scan: usize,
+    variable: usize,
+) -> bool
+    requires { CanTables seen.now tables.now.tables }
+    ensures { result ≡ is_right tables.now side given.now trace.now seen.now scan variable }
+{
+    has_given(tables, side, given, trace, scan, variable)
+        && has_table(tables, side, trace, seen, scan, variable)
+}
+
+fn follows_at(
+    tables: &Tables,
+    side: Side,
+    given: &History,
+    trace: &Trace,
+    seen: &Seen,
+    scan: usize,
+) -> bool
+    requires { CanTables seen.now tables.now.tables }
+    ensures { result ≡ at_all tables.now (is_right tables.now side given.now trace.now seen.now scan) }
+{
+    for variable in 0..tables.vars.len() {
+        if !is_right(tables, side, given, trace, seen, scan, variable) {
+            return false;
+        }
+    }
+    true
+}
+
+/// Whether each variable of the side has its given value or the value of its table at each scan.
+fn follows(tables: &Tables, side: Side, given: &History, trace: &Trace, seen: &Seen) -> bool
+    requires { CanTables seen.now tables.now.tables }
+    ensures { result ≡ follows_by tables.now side given.now trace.now seen.now }
+{
+    for scan in 0..trace.scans() {
+        if !follows_at(tables, side, given, trace, seen, scan) {
+            return false;
+        }
+    }
+    true
+}
+
+/// Whether the given values and the trace are lists of as many scans, in range.
+fn are_lists(tables: &Tables, side: Side, given: &History, trace: &Trace) -> bool
+    ensures { result ≡ are_lists tables.now side given.now trace.now }
+{
+    is_list(tables, Part::Given(side), given)
+        && is_list(tables, Part::Whole(side), trace)
+        && trace.scans() == given.scans()
+}
+
+/// Whether a finished trace fits the tables of a side over the given list. The plain and slow judge.
+pub fn fits_list(
+    alloc: Global,
+    tables: &Tables,
+    side: Side,
+    given: &History,
+    trace: &Trace,
+) -> Result<bool, NoMemory>
+    ensures { IfOk result (λ fits. IsTrue fits ↔ Fits tables.now side given.now trace.now) }
+{
+    if !are_lists(tables, side, given, trace) {
+        return Ok(false);
+    }
+    let start = seen_of(alloc, tables, Part::Whole(side), trace)?;
+    let seen = recall_all(alloc, tables, start)?;
+    Ok(follows(tables, side, given, trace, &seen))
+}

@@ -1,0 +1,9 @@
+pub mod BoundLemmas
+pub mod SafeLemmas
+pub mod CountLemmas
+pub mod FoundLemmas
+pub mod TableLemmas
+pub mod RowLemmas
+pub mod PlaceLemmas
+pub mod MapLemmas
+pub mod FourthLemmas

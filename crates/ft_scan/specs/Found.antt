@@ -1,0 +1,43 @@
+-- What is found among the cells of a table.
+use Rattle.std.specs.Prelude.{ℕ, ◌≡◌, ℤ, Bool, List, [], slice_get, Option, Some, None, IsTrue, IsFalse}
+use Rattle.std.specs.List.{list_any}
+use Rattle.std.specs.Ordering.{int_eq}
+use Rattle.ft_core.specs.declared.term.Cond.{Cond}
+use Rattle.ft_core.specs.declared.term.Term.{Term}
+use Rattle.ft_core.specs.declared.tables.Grid.{Grid}
+use Rattle.ft_core.specs.declared.tables.Table.{Table}
+use Rattle.ft_core.specs.declared.tables.Section.{Section}
+use Rattle.ft_core.specs.Grids.{Cell, is_for}
+use Rattle.ft_core.specs.Size.{is_sized_grid}
+use Rattle.ft_mean.specs.Value.{View, value, truth}
+use Rattle.ft_mean.specs.Cells.{holding}
+use Rattle.ft_scan.specs.Safe.{IsSafeBy}
+
+-- in a row of cells with these conditions and terms: the value of the term of one whose condition holds, or none holds
+abbrev pub IsInRow : View → List Cond → List Term → Option ℤ → Type 0
+IsInRow V conds terms None = (j : ℕ) (c : Cond) (e : Term) → slice_get conds j ≡ Some c → slice_get terms j ≡ Some e → IsFalse (truth V c)
+IsInRow V conds terms (Some z) =
+    (j : ℕ) × (c : Cond) × (e : Term) × (slice_get conds j ≡ Some c) × (slice_get terms j ≡ Some e) × IsTrue (truth V c) × (z ≡ value V e)
+
+-- the same in a row that must itself pass
+abbrev pub IsInRowFor : View → (passes : Bool) → List Cond → List Term → Option ℤ → Type 0
+IsInRowFor V passes conds terms None = IsTrue passes → IsInRow V conds terms None
+IsInRowFor V passes conds terms (Some z) = IsTrue passes × IsInRow V conds terms (Some z)
+
+-- the same in a row with a condition of its own
+abbrev pub IsInHeadedRow : View → Cond → List Cond → List Term → Option ℤ → Type 0
+IsInHeadedRow V head = IsInRowFor V (truth V head)
+
+-- the value of the term of a cell that holds, or no cell holds
+abbrev pub IsFound : View → List Cell → Option ℤ → Type 0
+IsFound V cells None = holding V cells ≡ []
+IsFound V cells (Some z) = IsTrue (list_any (λ cell. int_eq z (value V cell.term)) (holding V cells))
+
+abbrev pub IsSafeGrid : View → Grid → Type 0
+IsSafeGrid V grid = IsSafeBy V (λ vars memories. is_sized_grid vars memories grid)
+
+-- the table at this place is of the section and defines variable x
+pub record IsTableFor (tables : List Table) (section : Section) (x at : ℕ) : Type 0 where
+  pub table : Table
+  pub there : slice_get tables at ≡ Some table
+  pub is_for_it : IsTrue (is_for section x table)

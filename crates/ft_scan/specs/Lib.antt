@@ -1,0 +1,5 @@
+pub mod Allowing
+pub mod Found
+pub mod Fourth
+pub mod Rows
+pub mod Safe

@@ -1,0 +1,210 @@
+ghost use Rattle.std.specs.Prelude.{◌≡◌, ◌==◌, ℕ, [], slice_get, slice_index_or, IsTrue};
+ghost use Rattle.std.specs.Option.{option_map};
+ghost use Rattle.ft_core.specs.declared.tables.Grid.TheVariants.{Normal, Inverted, Vector};
+ghost use Rattle.ft_core.specs.Grids.{cells_for, defines};
+ghost use Rattle.ft_mean.specs.Value.{value, truth};
+ghost use Rattle.ft_scan.specs.Found.{IsFound, IsInHeadedRow, IsInRow, IsInRowFor, IsSafeGrid};
+ghost use Rattle.ft_scan.specs.Safe.{IsSafeCond, AreSafe, AreSafeConds, AreSafeCondRows, AreSafeRows};
+
+use crate::evaluating::{truth_of, value_of};
+use crate::look::Look;
+use ft_base::List;
+use ft_core::{Cond, Grid, Term};
+
+/// The value of the term at a place, where there is one.
+fn term_at<L: Look>(terms: &[Term], at: usize, look: &L) -> Option<i64>
+    requires { AreSafe (L.view look.now) terms.now }
+    ensures { result ≡ option_map (value (L.view look.now)) (slice_get terms.now at) }
+{
+    match terms.get(at) {
+        Some(term) => Some(value_of(term, look)),
+        None => None,
+    }
+}
+
+/// The value of the term of the first cell of a row whose condition holds.
+fn in_row<L: Look>(conds: &[Cond], terms: &[Term], look: &L) -> Option<i64>
+    requires conds { AreSafeConds (L.view look.now) conds.now }
+    requires terms { AreSafe (L.view look.now) terms.now }
+    ensures { IsInRow (L.view look.now) conds.now terms.now result }
+{
+    for (at, cond) in conds.iter().enumerate() {
+        if truth_of(cond, look) {
+            return term_at(terms, at, look);
+        }
+    }
+    None
+}
+
+/// The same in a row of a table, by its place.
+fn in_row_of<L: Look>(conds: &[Cond], terms: &[List<Term>], row: usize, look: &L) -> Option<i64>
+    requires conds { AreSafeConds (L.view look.now) conds.now }
+    requires terms { AreSafeRows (L.view look.now) terms.now }
+    ensures { IsInRow (L.view look.now) conds.now (slice_index_or terms.now row []) result }
+{
+    match terms.get(row) {
+        Some(entries) => in_row(conds, entries.as_slice(), look),
+        None => None,
+    }
+}
+
+/// The same in a row of an inverted table.
+fn in_grid_row<L: Look>(grid: &[List<Cond>], row: usize, terms: &[Term], look: &L) -> Option<i64>
+    requires conds { AreSafeCondRows (L.view look.now) grid.now }
+    requires terms { AreSafe (L.view look.now) terms.now }
+    ensures { IsInRow (L.view look.now) (slice_index_or grid.now row []) terms.now result }
+{
+    match grid.get(row) {
+        Some(conds) => in_row(conds.as_slice(), terms, look),
+        None => None,
+    }
+}
+
+/// The same in a row whose own condition must hold too.
+fn in_headed_row<L: Look>(
+    head: &Cond,
+    columns: &[Cond],
+    terms: &[List<Term>],
+    row: usize,
+    look: &L,
+) -> Option<i64>
+    requires head { IsSafeCond (L.view look.now) head.now }
+    requires columns { AreSafeConds (L.view look.now) columns.now }
+    requires terms { AreSafeRows (L.view look.now) terms.now }
+    ensures { IsInHeadedRow (L.view look.now) head.now columns.now (slice_index_or terms.now row []) result }
+{
+    if truth_of(head, look) {
+        in_row_of(columns, terms, row, look)
+    } else {
+        None
+    }
+}
+
+/// The same in an inverted table.
+fn in_headed_grid_row<L: Look>(
+    head: &Cond,
+    grid: &[List<Cond>],
+    row: usize,
+    terms: &[Term],
+    look: &L,
+) -> Option<i64>
+    requires head { IsSafeCond (L.view look.now) head.now }
+    requires conds { AreSafeCondRows (L.view look.now) grid.now }
+    requires terms { AreSafe (L.view look.now) terms.now }
+    ensures { IsInHeadedRow (L.view look.now) head.now (slice_index_or grid.now row []) terms.now result }
+{
+    if truth_of(head, look) {
+        in_grid_row(grid, row, terms, look)
+    } else {
+        None
+    }
+}
+
+/// The same in a row of a vector table, which must be for a variable.
+fn in_row_for<L: Look>(
+    variable: usize,
+    target: u32,
+    columns: &[Cond],
+    terms: &[List<Term>],
+    row: usize,
+    look: &L,
+) -> Option<i64>
+    requires columns { AreSafeConds (L.view look.now) columns.now }
+    requires terms { AreSafeRows (L.view look.now) terms.now }
+    ensures { IsInRowFor (L.view look.now) (target == variable) columns.now (slice_index_or terms.now row []) result }
+{
+    if target as usize == variable {
+        in_row_of(columns, terms, row, look)
+    } else {
+        None
+    }
+}
+
+/// The value of the term of the first cell of a normal table that holds.
+fn in_normal<L: Look>(
+    columns: &[Cond],
+    rows: &[Cond],
+    terms: &[List<Term>],
+    look: &L,
+) -> Option<i64>
+    requires columns { AreSafeConds (L.view look.now) columns.now }
+    requires rows { AreSafeConds (L.view look.now) rows.now }
+    requires terms { AreSafeRows (L.view look.now) terms.now }
+    ensures { (x : ℕ) → IsFound (L.view look.now) (cells_for x (Normal x columns.now rows.now terms.now)) result }
+{
+    for (at, row) in rows.iter().enumerate() {
+        if let Some(value) = in_headed_row(row, columns, terms, at, look) {
+            return Some(value);
+        }
+    }
+    None
+}
+
+/// The value of the term of the first cell of an inverted table that holds.
+fn in_inverted<L: Look>(terms: &[Term], rows: &[Cond], grid: &[List<Cond>], look: &L) -> Option<i64>
+    requires terms { AreSafe (L.view look.now) terms.now }
+    requires rows { AreSafeConds (L.view look.now) rows.now }
+    requires grid { AreSafeCondRows (L.view look.now) grid.now }
+    ensures { (x : ℕ) → IsFound (L.view look.now) (cells_for x (Inverted x terms.now rows.now grid.now)) result }
+{
+    for (at, row) in rows.iter().enumerate() {
+        if let Some(value) = in_headed_grid_row(row, grid, at, terms, look) {
+            return Some(value);
+        }
+    }
+    None
+}
+
+/// The value of the term of the first cell of a vector table that is for a variable and holds.
+fn in_vector<L: Look>(
+    columns: &[Cond],
+    targets: &[u32],
+    terms: &[List<Term>],
+    variable: usize,
+    look: &L,
+) -> Option<i64>
+    requires columns { AreSafeConds (L.view look.now) columns.now }
+    requires terms { AreSafeRows (L.view look.now) terms.now }
+    ensures { IsFound (L.view look.now) (cells_for variable (Vector columns.now targets.now terms.now)) result }
+{
+    for (at, target) in targets.iter().enumerate() {
+        if let Some(value) = in_row_for(variable, *target, columns, terms, at, look) {
+            return Some(value);
+        }
+    }
+    None
+}
+
+/// The value of the term of the first cell of a table that is for a variable and holds, by rows and then by columns. The table
+/// defines the variable.
+pub(crate) fn value_in<L: Look>(grid: &Grid, variable: usize, look: &L) -> Option<i64>
+    requires safe { IsSafeGrid (L.view look.now) grid.now }
+    requires defines { IsTrue (defines grid.now variable) }
+    ensures { IsFound (L.view look.now) (cells_for variable grid.now) result }
+{
+    match grid {
+        Grid::Normal {
+            target: _,
+            columns,
+            rows,
+            terms,
+        } => in_normal(columns.as_slice(), rows.as_slice(), terms.as_slice(), look),
+        Grid::Inverted {
+            target: _,
+            terms,
+            rows,
+            grid,
+        } => in_inverted(terms.as_slice(), rows.as_slice(), grid.as_slice(), look),
+        Grid::Vector {
+            columns,
+            targets,
+            terms,
+        } => in_vector(
+            columns.as_slice(),
+            targets.as_slice(),
+            terms.as_slice(),
+            variable,
+            look,
+        ),
+    }
+}
