@@ -44,7 +44,7 @@ mod tests {
         let mut sink = MemSink::open(alloc, 100, List::copy_of(alloc, &[(2, 0)])?)?;
         let ended = run(alloc, &[], &mut shelf, &mut sink);
         assert_eq!(rt; ended.status, 4);
-        assert_eq!(rt; sink.taken(), b"usage: ftv verify F\n".as_slice());
+        assert_eq!(rt; sink.taken(), b"usage: ftv verify F, print F\n".as_slice());
         assert!(rt; sink.write(b"more").is_err());
         Ok(())
     }
