@@ -1,9 +1,11 @@
 -- The set of a form is sound: what its tables read, that each variable has its table, and an order.
-use Rattle.std.proofs.Common.{◌≡◌, ◌∙◌, sym, ap, subst, refl, ℕ, zero, suc, ◌<◌, ℤ, pos, Bool, true, false, ◌&&◌, ◌||◌, List, [], ◌∷◌, ◌++◌, map, slice_get, Some, arith, ⊎_elim, true≢false}
-use Rattle.std.specs.Prelude.{IsTrue, ◌==◌, nat_le, unsigned_abs, if◌then◌else◌}
+use Rattle.std.proofs.Common.{◌≡◌, ◌∙◌, sym, ap, subst, refl, ℕ, zero, suc, ◌<◌, ℤ, pos, Bool, true, false, ◌&&◌, ◌||◌, List, [], ◌∷◌, ◌++◌, length, map, slice_get, Some, arith, ⊎_elim, true≢false}
+use Rattle.std.specs.Prelude.{IsTrue, ◌==◌, nat_le, nat_lt, unsigned_abs, if◌then◌else◌}
 use Rattle.std.specs.List.{Contains, flat_map, list_all, list_any}
 use Rattle.std.proofs.lemmas.Int.{ints}
 use Rattle.std.proofs.lemmas.Bool.{and_parts, and_from, or_cases, or_left, or_right}
+use Rattle.std.proofs.lemmas.Bool.Decides.{Decides-eqb}
+use Rattle.std.proofs.lemmas.List.{length-map}
 use Rattle.std.proofs.lemmas.List.Elements.{Contains-append_cases}
 use Rattle.std.proofs.lemmas.Option.{none-some, same_Some}
 use Rattle.ft_base.specs.Interval.{IsWithin}
@@ -20,15 +22,16 @@ use Rattle.ft_core.specs.declared.term.Term.TheVariants.{Num, Now, rolls-Num, ro
 use Rattle.ft_core.specs.declared.term.Cond.{Cond}
 use Rattle.ft_core.specs.declared.term.Cond.TheOpen as cl
 use Rattle.ft_core.specs.declared.term.Cond.TheVariants as cond
-use Rattle.ft_core.specs.Kinds.{defined_kinds, is_of}
-use Rattle.ft_core.specs.Grids.{cells_for, is_for, is_section, defines}
+use Rattle.ft_core.specs.Kinds.{defined_kinds, of_kind, is_of, place_of}
+use Rattle.ft_core.specs.Grids.{cells_for, is_for, is_section, is_shaped, defines}
 use Rattle.ft_core.specs.Reads.{Read, at_now, at_before, of_memory, of_age, term_reads, cond_reads, grid_reads, cell_reads}
 use Rattle.ft_core.specs.Size.{var_size, is_sized_term, is_sized, is_sized_grid}
 use Rattle.ft_core.specs.Sound.{IsSound, may_read, item_reads, is_current}
 use Rattle.ft_core.proofs.SizeLemmas.{small-Num, small-Now, sized-Yes, sized-Compare}
 use Rattle.ft_core.proofs.TermLemmas.{reads-rolled, cond_reads-rolled}
 use Rattle.ft_mean.proofs.CellLemmas.{own_reads}
-use Rattle.ft_cli.specs.Form.{IsGoodForm, IsGoodVariable, AreGoodVariables, bound_value}
+use Rattle.ft_mean.proofs.Passes.{passes}
+use Rattle.ft_cli.specs.Form.{HasRows, HaveRows, IsGoodForm, IsGoodVariable, AreGoodVariables, bound_value}
 use Rattle.ft_cli.specs.FormSet.{AreShort, HaveShortNumbers, var_of, vars_of, tables_of, table_of, cond_of, term_of, is_short_bound, is_short_entry, is_short_guard}
 use Rattle.ft_cli.specs.declared.form.Bound.{Bound}
 use Rattle.ft_cli.specs.declared.form.Guard.{Guard}
@@ -262,9 +265,39 @@ module _ (v : Variables) (good : AreGoodVariables v) where
       (and_from (is_sized_grid (vars_of v) [] (table_of section.Sof 3 2 t.design).grid) _ (table-sized section.Sof 3 2 t.design short.design)
       (and_from (is_sized_grid (vars_of v) [] (table_of section.Out 1 3 t.output).grid) true (table-sized section.Out 1 3 t.output short.output) refl)))
 
+-- each row has the one entry for the one column
+single-entries : (read : ℕ) (rows : List Row) → list_all (λ entries. length entries == 1) (map (λ row. term_of read row.entry ∷ []) rows) ≡ true
+single-entries read [] = refl
+single-entries read (row ∷ rows) = single-entries read rows
+
+table-shaped : (s : Section) (target read : ℕ) (rows : List Row) → HasRows rows → is_shaped (table_of s target read rows).grid ≡ true
+table-shaped s target read rows some =
+    let conds = map (λ r. cond_of read r.guard) rows in
+    let terms = map (λ r. term_of read r.entry ∷ []) rows in
+    let filled : nat_lt 0 (length conds) ≡ true = grind (arith, some.0, length-map rows (λ r. cond_of read r.guard)) in
+    let same : (length terms == length conds) ≡ true
+    = (Decides-eqb (length terms) (length conds)).1 (length-map rows (λ r. term_of read r.entry ∷ []) ∙ sym (length-map rows (λ r. cond_of read r.guard))) in
+    and_from (nat_lt 0 (length conds) && nat_lt 0 1 && (length terms == length conds)) (list_all (λ entries. length entries == 1) terms)
+    (and_from (nat_lt 0 (length conds) && nat_lt 0 1) (length terms == length conds) (and_from (nat_lt 0 (length conds)) (nat_lt 0 1) filled refl) same)
+    (single-entries read rows)
+
+tables-shaped : (t : TableRows) → HaveRows t → IsTrue (list_all (λ (table : Table). is_shaped table.grid) (tables_of t))
+tables-shaped t some =
+    and_from (is_shaped (table_of section.In 2 0 t.input).grid) _ (table-shaped section.In 2 0 t.input some.input)
+    (and_from (is_shaped (table_of section.Req 1 0 t.required).grid) _ (table-shaped section.Req 1 0 t.required some.required)
+    (and_from (is_shaped (table_of section.Sof 3 2 t.design).grid) _ (table-shaped section.Sof 3 2 t.design some.design)
+    (and_from (is_shaped (table_of section.Out 1 3 t.output).grid) true (table-shaped section.Out 1 3 t.output some.output) refl)))
+
 -- the set of a good form is sound
 pub sound-of : (f : Form) → IsGoodForm f → AreShort f.rows → IsSound (pos f.period) (vars_of f.variables) [] (tables_of f.rows) [] [] []
 sound-of f good short = record {
+  few_vars = omega arith;
+  few_memories = omega arith;
+  few_tables = omega arith;
+  few_clauses = omega arith;
+  places = λ x u e. (Decides-eqb _ _).0
+      (passes (λ x u. u.place == place_of (of_kind u.kind) (vars_of f.variables) x) (vars_of f.variables) refl x u e);
+  shapes = tables-shaped f.rows good.rows;
   has_period = (omega (arith, ints, good.period.0), omega (arith, ints, good.period.1));
   inits = inits-good f.variables good.variables;
   timers = λ m name s c hold e. absurd (none-some (Held name s c hold) e);

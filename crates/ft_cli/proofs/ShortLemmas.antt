@@ -1,12 +1,12 @@
 -- The rows of a spelled form have short numbers, since each of its lexemes is short.
-use Rattle.std.proofs.Common.{◌≡◌, ◌∙◌, sym, ap, refl, ℕ, Bool, true, false, List, [], ◌∷◌, codes, arith}
+use Rattle.std.proofs.Common.{◌≡◌, ◌∙◌, sym, ap, refl, ℕ, true, false, List, [], ◌∷◌, codes, arith}
 use Rattle.std.specs.Prelude.{IsTrue, nat_le, if◌then◌else◌}
 use Rattle.std.specs.List.{list_all}
 use Rattle.std.proofs.lemmas.Bool.{and_parts, and_from}
 use Rattle.std.proofs.lemmas.List.Folds.{list_all-map}
-use Rattle.ft_cli.specs.Form.{SpellsForm, bound_lexemes, guard_lexemes, entry_lexemes, row_lexemes, rows_lexemes, table_lexemes, variable_lexemes, variables_lexemes, tables_lexemes, head_lexemes, block_lexemes, form_lexemes}
+use Rattle.ft_cli.specs.Form.{SpellsForm, bound_lexemes, guard_lexemes, entry_lexemes, rows_lexemes, table_lexemes, variable_lexemes, variables_lexemes, tables_lexemes, head_lexemes, block_lexemes, form_lexemes}
 use Rattle.ft_cli.specs.FormSet.{AreShort, HaveShortNumbers, is_short_bound, is_short_guard, is_short_entry}
-use Rattle.ft_cli.specs.Lexeme.{Lexeme, word, name, number, sign, end, is_short, lexeme_of}
+use Rattle.ft_cli.specs.Lexeme.{Lexeme, word, number, sign, end, is_short, lexeme_of}
 use Rattle.ft_cli.specs.declared.form.Bound.{Bound}
 use Rattle.ft_cli.specs.declared.form.Guard.{Guard}
 use Rattle.ft_cli.specs.declared.form.Guard.TheVariants.{Always, Compare}

@@ -29,9 +29,9 @@ use Rattle.ft_cli.specs.declared.form.TableRows.{TableRows}
 use Rattle.ft_cli.specs.declared.form.Form.{Form}
 
 abbrev pub var_of : VarKind → Variable → Var
-var_of kind v = record { name = v.name; kind = kind; range = bounds_of v; members = []; init = bound_value v.init }
+var_of kind v = record { name = v.name; kind = kind; place = 0; range = bounds_of v; members = []; init = bound_value v.init }
 
--- in the order of their declaration: monitored 0, controlled 1, input 2, output 3
+-- in the order of their declaration: monitored 0, controlled 1, input 2, output 3; each is the first of its kind
 abbrev pub vars_of : Variables → List Var
 vars_of v = var_of Mon v.monitored ∷ var_of Con v.controlled ∷ var_of Input v.input ∷ var_of Output v.output ∷ []
 

@@ -1,26 +1,11 @@
 ghost use Rattle.std.specs.Prelude.{◌≡◌, ◌↔◌, ◌==◌, IsTrue, count_by};
 ghost use Rattle.std.specs.Option.{option_map, option_and_then};
 ghost use Rattle.std.specs.List.{find};
-ghost use Rattle.ft_mean.specs.Value.{compares};
 ghost use Rattle.ft_cli.specs.Rows.{row_holds, row_value, result_at, is_proper_at, is_within, required_at, designed_at};
 
 use crate::form::{Entry, Guard, Row, TableRows};
 use ft_base::Range;
-use ft_core::Rel;
-
-/// Whether two numbers compare so.
-fn compare(relation: Rel, left: i64, right: i64) -> bool
-    ensures { result ≡ compares relation left right }
-{
-    match relation {
-        Rel::Eq => left == right,
-        Rel::Ne => left != right,
-        Rel::Lt => left < right,
-        Rel::Le => left <= right,
-        Rel::Gt => left > right,
-        Rel::Ge => left >= right,
-    }
-}
+use ft_mean::compare;
 
 impl Row {
     /// Whether the row holds where the variable that its table reads has this value.

@@ -18,6 +18,7 @@ fn checked_variable(alloc: Global, kind: VarKind, variable: Variable) -> Result<
         Some(range) => Ok(Var {
             name: variable.name,
             kind,
+            place: 0,
             range,
             members: List::new(alloc),
             init,

@@ -1,6 +1,6 @@
 -- The cells of a table, by rows. Source: Parnas's tabular expressions, in their normal, inverted and vector form.
-use Rattle.std.specs.Prelude.{ℕ, Bool, true, false, ◌&&◌, ◌==◌, List, [], ◌∷◌, map, filter}
-use Rattle.std.specs.List.{list_any, flat_map, zip, enumerate_from}
+use Rattle.std.specs.Prelude.{ℕ, Bool, true, false, nat_lt, ◌&&◌, ◌==◌, List, [], ◌∷◌, length, map, filter}
+use Rattle.std.specs.List.{list_all, list_any, flat_map, zip, enumerate_from}
 use Rattle.ft_core.specs.declared.tables.Table.{Table}
 use Rattle.ft_core.specs.declared.tables.Section.{Section}
 use Rattle.ft_core.specs.declared.tables.Section.TheVariants as section
@@ -53,3 +53,13 @@ is_section _ _ = false
 -- a table of the section that defines variable x
 abbrev pub is_for : Section → ℕ → Table → Bool
 is_for section x table = is_section table.section section && defines table.grid x
+
+-- some rows and columns, and an entry for each of them
+abbrev pub is_full : {X : Type 0} → (rows columns : ℕ) → List (List X) → Bool
+is_full rows columns grid = nat_lt 0 rows && nat_lt 0 columns && length grid == rows && list_all (λ row. length row == columns) grid
+
+-- each row has as many entries as the header
+abbrev pub is_shaped : Grid → Bool
+is_shaped (Normal target columns rows terms) = is_full (length rows) (length columns) terms
+is_shaped (Inverted target terms rows grid) = is_full (length rows) (length terms) grid
+is_shaped (Vector columns targets terms) = is_full (length targets) (length columns) terms

@@ -1,6 +1,6 @@
 -- Which variables belong to a side, a section or a list of values, and a variable's place among them.
 -- Source: the four-variable model of Parnas and Madey.
-use Rattle.std.specs.Prelude.{ℕ, zero, suc, Bool, true, false, ◌||◌, List, [], ◌∷◌, take, slice_get, Option, None, Some, if◌then◌else◌}
+use Rattle.std.specs.Prelude.{ℕ, zero, suc, Bool, true, false, ◌||◌, List, [], ◌∷◌, take, slice_get, None, Some, if◌then◌else◌}
 use Rattle.ft_core.specs.declared.tables.Var.{Var}
 use Rattle.ft_core.specs.declared.tables.VarKind.{VarKind}
 use Rattle.ft_core.specs.declared.tables.VarKind.TheVariants as kind
@@ -28,6 +28,23 @@ inputs _ = false
 abbrev pub outputs : Kinds
 outputs kind.Output = true
 outputs _ = false
+
+abbrev pub requirement_inner : Kinds
+requirement_inner kind.ReqInner = true
+requirement_inner _ = false
+
+abbrev pub design_inner : Kinds
+design_inner kind.SofInner = true
+design_inner _ = false
+
+-- this kind alone
+abbrev pub of_kind : VarKind → Kinds
+of_kind kind.Mon = monitored
+of_kind kind.Con = controlled
+of_kind kind.Input = inputs
+of_kind kind.Output = outputs
+of_kind kind.ReqInner = requirement_inner
+of_kind kind.SofInner = design_inner
 
 -- what the requirement tables define
 abbrev pub requirement : Kinds

@@ -1,5 +1,5 @@
 -- What holds of every checked set.
-use Rattle.std.specs.Prelude.{ℕ, ◌+◌, ◌≡◌, ◌<◌, ℤ, pos, ◌<ℤ◌, Bool, true, false, ◌||◌, IsTrue, List, [], ◌++◌, length, slice_get, Some, None, if◌then◌else◌}
+use Rattle.std.specs.Prelude.{ℕ, ◌+◌, ◌≡◌, ◌<◌, ◌≤◌, ℤ, pos, ◌<ℤ◌, Bool, true, false, ◌||◌, IsTrue, List, [], ◌++◌, length, slice_get, Some, None, if◌then◌else◌}
 use Rattle.std.specs.List.{Contains, flat_map, list_all, list_any}
 use Rattle.ft_base.specs.Interval.{IsWithin}
 use Rattle.ft_core.specs.declared.tables.Var.{Var}
@@ -12,8 +12,8 @@ use Rattle.ft_core.specs.declared.tables.Section.{Section}
 use Rattle.ft_core.specs.declared.tables.Section.TheVariants as section
 use Rattle.ft_core.specs.declared.term.Term.{Term}
 use Rattle.ft_core.specs.declared.term.Cond.{Cond}
-use Rattle.ft_core.specs.Kinds.{Kinds, monitored, outputs, defined_kinds, side_kinds, is_of}
-use Rattle.ft_core.specs.Grids.{cells_for, is_for}
+use Rattle.ft_core.specs.Kinds.{Kinds, monitored, outputs, defined_kinds, side_kinds, of_kind, is_of, place_of}
+use Rattle.ft_core.specs.Grids.{cells_for, is_for, is_shaped}
 use Rattle.ft_core.specs.Reads.{Read, at_now, at_before, of_memory, of_age, cond_reads, memory_reads, grid_reads, cell_reads}
 use Rattle.ft_core.specs.Size.{is_sized, is_sized_memory, is_sized_grid}
 
@@ -88,9 +88,15 @@ IsHold = IsWithin (pos 0, pos 1000000)
 abbrev pub IsPeriod : ℤ → Type 0
 IsPeriod = IsWithin (pos 1, pos 10000)
 
--- what was checked of a set: its numbers, the sizes of its terms, what may be read where, one table for each variable and
--- section, and an order
+-- what was checked of a set: its counts, places and numbers, the shapes of its tables and the sizes of its terms, what may be
+-- read where, one table for each variable and section, and an order
 pub record IsSound (period : ℤ) (vars : List Var) (memories : List Memory) (tables : List Table) (first always step : List Cond) : Type 0 where
+  pub few_vars : length vars ≤ 1100
+  pub few_memories : length memories ≤ 200
+  pub few_tables : length tables ≤ 400
+  pub few_clauses : length (first ++ always ++ step) ≤ 700
+  pub places : (x : ℕ) (v : Var) → slice_get vars x ≡ Some v → v.place ≡ place_of (of_kind v.kind) vars x
+  pub shapes : IsTrue (list_all (λ table. is_shaped table.grid) tables)
   pub has_period : IsPeriod period
   pub inits : (x : ℕ) (v : Var) → slice_get vars x ≡ Some v → IsWithin v.range v.init
   pub timers : (m : ℕ) (name : List ℕ) (s : Side) (cond : Cond) (hold : ℤ) → slice_get memories m ≡ Some (Held name s cond hold) → IsHold hold

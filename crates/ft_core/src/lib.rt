@@ -3,13 +3,17 @@
 
 mod circle;
 mod history;
+mod items;
+mod kinds;
 mod label;
 mod ordering;
+mod reading;
 mod tables;
 mod term;
 mod walk;
 
 pub use history::History;
+pub use items::scan_order;
 pub use label::{Label, State};
 pub use ordering::{OrderFault, order, order_gives_rank, rank_excludes_circles};
 pub use tables::{Block, Fact, Grid, Memory, Section, Side, Table, Tables, Take, Var, VarKind};

@@ -47,6 +47,8 @@ pub enum Section {
 pub struct Var {
     pub name: Text,
     pub kind: VarKind,
+    /// Its place among the variables of its kind, in order of declaration, from 0: that of its value in a scan of them.
+    pub place: u32,
     pub range: Range,
     /// The members of an enum, and none for a number.
     pub members: List<Text>,

@@ -71,6 +71,25 @@ module _ (v : View) where
   pub truth-Or : (a b : Cond) → truth v (Or a b) ≡ (truth v a || truth v b)
   truth-Or a b = truth-rolled v _ (cl.Or a b) (rolls-Or a b)
 
+pub ruleset evaluation = (
+  value-Num,
+  value-Now,
+  value-Prev,
+  value-Age,
+  value-Neg,
+  value-Add,
+  value-Sub,
+  value-Times,
+  value-Div,
+  truth-Yes,
+  truth-No,
+  truth-Compare,
+  truth-Memory,
+  truth-Not,
+  truth-And,
+  truth-Or,
+)
+
 -- what stands in one list stands in another that equals it
 pub carried : {xs ys : List Read} {r : Read} → ys ≡ xs → Contains xs r → Contains ys r
 carried {r = r} e = subst (λ zs. Contains zs r) (sym e)

@@ -1,13 +1,13 @@
 -- The tests of a trace say that it fits.
-use Rattle.std.proofs.Common.{◌≡◌, ◌∙◌, sym, ap, subst, refl, ℕ, zero, suc, ◌+◌, ◌-◌, ◌<◌, ◌≤◌, ℤ, pos, negsuc, ◌*ℤ◌, Bool, true, false, cond, not, ◌&&◌, ◌||◌, List, [], map, max, length, slice_get, slice_index_or, Option, Some, None, ◌∷◌, arith, ⊎_elim, true≢false}
-use Rattle.std.specs.Prelude.{◌↔◌, ◌==◌, int_le, IsTrue, unsigned_abs}
+use Rattle.std.proofs.Common.{◌≡◌, ◌∙◌, sym, ap, subst, refl, ℕ, zero, suc, ◌+◌, ◌-◌, ◌<◌, ◌≤◌, ℤ, pos, negsuc, ◌*ℤ◌, Bool, true, false, cond, ◌&&◌, List, [], map, max, length, slice_get, slice_index_or, Option, Some, None, ◌∷◌, arith, ⊎_elim}
+use Rattle.std.specs.Prelude.{◌↔◌, ◌==◌, IsTrue, unsigned_abs}
 use Rattle.std.specs.List.{range_with_len}
 use Rattle.std.specs.Ordering.{int_eq}
 use Rattle.std.proofs.lemmas.Int.{ints}
 use Rattle.std.proofs.lemmas.Bool.{and_parts, and_from, cases_lt}
 use Rattle.std.proofs.lemmas.Bool.Decides.{Decides-eqb, Decides-int_eq}
 use Rattle.std.proofs.lemmas.List.{get_or_past}
-use Rattle.std.proofs.lemmas.List.FromFn.{length-range_with_len, get_or-range_with_len, length-map-range_with_len, get_or-map-range_with_len}
+use Rattle.std.proofs.lemmas.List.FromFn.{length-map-range_with_len, get_or-map-range_with_len}
 use Rattle.std.proofs.lemmas.Option.{slice_get_cases, slice_get_past, slice_get_within}
 use Rattle.ft_base.specs.Interval.{IsWithin}
 use Rattle.ft_core.specs.declared.tables.Tables.{Tables}
@@ -16,7 +16,7 @@ use Rattle.ft_core.specs.declared.tables.Memory as tables
 use Rattle.ft_core.specs.declared.tables.Memory.TheVariants.{Held, Hyst}
 use Rattle.ft_core.specs.declared.tables.Side.{Side}
 use Rattle.ft_core.specs.declared.tables.Side.TheVariants as side
-use Rattle.ft_core.specs.Kinds.{Kinds, given_kinds, defined_kinds, side_kinds, section_of, is_of, count_of, place_of}
+use Rattle.ft_core.specs.Kinds.{given_kinds, defined_kinds, side_kinds, section_of, is_of, place_of}
 use Rattle.ft_core.specs.Reads.{Read}
 use Rattle.ft_core.specs.Size.{var_size, age_size}
 use Rattle.ft_mean.specs.declared.seen.Seen.{Seen}
@@ -26,78 +26,17 @@ use Rattle.ft_mean.specs.Cells.{defined}
 use Rattle.ft_mean.specs.Memory.{at_scan, remembered, memory_within, memory_at, look}
 use Rattle.ft_mean.specs.Reading.{Reading, Scans, IsListOf, IsVar, init_of, reading_of, before, begun, since}
 use Rattle.ft_mean.specs.Fits.{Fits, side_reading}
-use Rattle.ft_mean.specs.Seen.{CanTell, view_at, recalled, recalled_at, after_rounds}
-use Rattle.ft_mean.specs.Part.{scans_of, through, is_inside, in_range, is_row, is_list, are_lists, has_given, has_table, is_right, follows_by, at_all}
+use Rattle.ft_mean.specs.Safe.{IsSafeBy}
+use Rattle.ft_mean.specs.Seen.{view_at, recalled, recalled_at, after_rounds}
+use Rattle.ft_mean.specs.Part.{scans_of, is_list, are_lists, has_given, has_table, is_right, follows_by, at_all}
 use Rattle.ft_mean.proofs.WellFormed.{OnSide, MayRead, opened}
 use Rattle.ft_mean.proofs.CellLemmas.{own_reads}
 use Rattle.ft_mean.proofs.MemoryLemmas.{ageless}
 use Rattle.ft_mean.proofs.OneScan.{table_of, defined_same}
-use Rattle.ft_mean.proofs.Passes.{all_pass, is_within, within}
 use Rattle.ft_mean.proofs.PastLemmas.{same_held, same_hyst}
-use Rattle.ft_mean.proofs.RecallLemmas.{through_next, rows_kept, past_kept}
+use Rattle.ft_mean.proofs.RecallLemmas.{rows_kept, past_kept}
+use Rattle.ft_mean.proofs.TraceTests.{through_at, through_from, asked_of, when_of, list_is, list_from}
 use Rattle.ft_mean.proofs.Traces.{reading_range}
-
--- a test at the first n numbers
-through_at : (p : ℕ → Bool) (n : ℕ) → through n p ≡ true → (k : ℕ) → k < n → p k ≡ true
-through_at p n h k below =
-    let inside : k < length (range_with_len 0 n) = omega (arith, below, length-range_with_len 0 n) in
-    let at : 0 + k ≡ k = omega arith in
-    all_pass p (range_with_len 0 n) h k (k, inside, get_or-range_with_len 0 n k k below ∙ at)
-
-through_from : (p : ℕ → Bool) (n : ℕ) → ((k : ℕ) → k < n → p k ≡ true) → through n p ≡ true
-through_from p zero h = refl
-through_from p (suc n) h =
-    let more : n + 1 ≡ suc n = omega arith in
-    subst (λ m. through m p ≡ true) more (through_next p n (through_from p n (λ k below. h k (omega (arith, below)))) (h n (omega arith)))
-
-asked : (b c : Bool) → (not b || c) ≡ true → b ≡ true → c ≡ true
-asked true c h e = h
-asked false c h e = absurd (true≢false (sym e))
-
-when : (b c : Bool) → (b ≡ true → c ≡ true) → (not b || c) ≡ true
-when true c h = h refl
-when false c h = refl
-
-inside_from : (range : ℤ × ℤ) (z : ℤ) → IsWithin range z → is_within range z ≡ true
-inside_from range z h = let low = h.0 in let high = h.1 in and_from (int_le range.0 z) (int_le z range.1) (grind (arith, ints, low)) (grind (arith, ints, high))
-
-module _ (S : Tables) (kinds : Kinds) (x : ℕ) where
-  of_kinds : (v : Var) → slice_get S.vars x ≡ Some v → is_of S.vars kinds x ≡ kinds v.kind
-  of_kinds v there = ap (λ o. elim o as (λ z. Bool) [ None ↦ false | Some u ↦ kinds u.kind ]) there
-
-  -- a test of the variables of these kinds, at one of them
-  asked_of : (v : Var) (test : Bool) → IsVar S kinds x v → (not (is_of S.vars kinds x) || test) ≡ true → test ≡ true
-  asked_of v test is h = asked (is_of S.vars kinds x) test h (of_kinds v is.0 ∙ is.1)
-
-  -- and where it passes for all of them
-  when_of : (test : Bool) → x < length S.vars → ((v : Var) → IsVar S kinds x v → test ≡ true) → (not (is_of S.vars kinds x) || test) ≡ true
-  when_of test below h = when (is_of S.vars kinds x) test (λ on. ⊎_elim
-      (λ p. h p.0 (p.2, sym (of_kinds p.0 p.2) ∙ on))
-      (λ p. absurd (omega (arith, below, p.0)))
-      (slice_get_cases S.vars x).1)
-
-inside_at : (S : Tables) (x : ℕ) (z : ℤ) (v : Var) → slice_get S.vars x ≡ Some v → is_inside S x z ≡ is_within v.range z
-inside_at S x z v there = ap (λ o. elim o as (λ y. Bool) [ None ↦ true | Some u ↦ is_within u.range z ]) there
-
-module _ (S : Tables) (kinds : Kinds) (scans : Scans) where
-  pub list_is : is_list S kinds scans ≡ true → IsListOf S kinds scans
-  list_is h = record {
-    widths = λ t below. (Decides-eqb (length (slice_index_or scans t [])) (count_of kinds S.vars)).0 (row t below).0;
-    ranges = λ t x v below is. within v.range (reading_of S kinds scans t x)
-        (sym (inside_at S x (reading_of S kinds scans t x) v is.0)
-        ∙ asked_of S kinds x v (is_inside S x (reading_of S kinds scans t x)) is
-        (through_at (in_range S kinds scans t) (length S.vars) (row t below).1 x (slice_get_within S.vars x v is.0)));
-  }
-    where
-      row : (t : ℕ) → t < length scans → ((length (slice_index_or scans t []) == count_of kinds S.vars) ≡ true) × (at_all S (in_range S kinds scans t) ≡ true)
-      row t below = and_parts (length (slice_index_or scans t []) == count_of kinds S.vars) (at_all S (in_range S kinds scans t))
-          (through_at (is_row S kinds scans) (length scans) h t below)
-
-  pub list_from : IsListOf S kinds scans → is_list S kinds scans ≡ true
-  list_from list = through_from (is_row S kinds scans) (length scans) (λ t below. and_from _ _
-      ((Decides-eqb (length (slice_index_or scans t [])) (count_of kinds S.vars)).1 (list.widths t below))
-      (through_from (in_range S kinds scans t) (length S.vars) (λ x low. when_of S kinds x (is_inside S x (reading_of S kinds scans t x)) low
-      (λ v is. inside_at S x (reading_of S kinds scans t x) v is.0 ∙ inside_from v.range (reading_of S kinds scans t x) (list.ranges t x v below is)))))
 
 -- a table of numbers at a place, where there is none beyond its width
 table_at : (f : ℕ → ℕ → ℤ) (n w t x : ℕ) → t < n → (w ≤ x → f t x ≡ pos 0)
@@ -179,12 +118,12 @@ module _ (S : Tables) (s : Side) (trace : Scans) where
         (λ out. subst (IsLow x) (sym (table_past f (length trace) (length S.vars) t x out)) (zero_low x))
         (cases_lt t (length trace))
 
-    -- whatever is small over the set can be told of a trace in range
-    pub can_tell : (test : List Var → List tables.Memory → Bool) → test S.vars S.memories ≡ true → CanTell start test
-    can_tell test small = record {
+    -- whatever is small over the set is safe at each scan of a trace in range
+    pub safe_list : (test : List Var → List tables.Memory → Bool) → test S.vars S.memories ≡ true → (t : ℕ) → IsSafeBy (view_at start t) test
+    safe_list test small t = record {
       vars = S.vars;
       memories = S.memories;
-      sized = λ t. record {
+      keeps = record {
         now = low_in ρ told_past told_low t;
         before = low_in (before S ρ) before_past before_low t;
         age = λ m. age_one (slice_get S.memories m);

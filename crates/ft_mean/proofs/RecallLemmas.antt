@@ -1,13 +1,14 @@
 -- Looking back over scans, one at a time.
-use Rattle.std.proofs.Common.{◌≡◌, ◌∙◌, sym, ap, refl, ℕ, zero, suc, ◌+◌, ◌-◌, ◌<◌, ◌≤◌, ℤ, Bool, true, false, cond, ◌&&◌, ◌||◌, List, [], ◌∷◌, ◌++◌, map, take, length, min, slice_index_or, arith, ⊎_elim, true≢false}
-use Rattle.std.specs.Prelude.{int_le, reverse}
+use Rattle.std.proofs.Common.{◌≡◌, ◌∙◌, sym, ap, subst, refl, ℕ, zero, suc, ◌+◌, ◌-◌, ◌<◌, ◌≤◌, ℤ, pos, Bool, true, false, cond, ◌&&◌, ◌||◌, List, [], ◌∷◌, ◌++◌, map, take, length, min, slice_index_or, arith, ⊎_elim, true≢false}
+use Rattle.std.specs.Prelude.{int_le, unsigned_abs, slice_get, reverse}
 use Rattle.std.specs.List.{Contains, list_all, list_any, zip, range_with_len}
 use Rattle.ft_core.specs.declared.tables.Tables.{Tables}
-use Rattle.ft_mean.specs.declared.seen.Seen.{Seen}
-use Rattle.ft_mean.specs.Seen.{CanTell, recalled_at, after_rounds}
 use Rattle.ft_core.specs.declared.tables.Var.{Var}
 use Rattle.ft_core.specs.declared.tables.Memory.{Memory}
-use Rattle.ft_mean.proofs.TellLemmas.{can_again}
+use Rattle.ft_core.specs.Size.{var_size}
+use Rattle.ft_mean.specs.declared.seen.Seen.{Seen}
+use Rattle.ft_mean.specs.Safe.{IsSafeBy}
+use Rattle.ft_mean.specs.Seen.{view_at, recalled_at, after_rounds}
 use Rattle.std.proofs.lemmas.List.{map-append}
 use Rattle.std.proofs.lemmas.Bool.{cases_lt, or_left, or_right}
 use Rattle.std.proofs.lemmas.List.Folds.{list_all-append, list_any-append}
@@ -93,6 +94,20 @@ round_next S start seen k bits is here =
     ∙ (λ i. record { rows = (is i).rows; past = (is i).past; bits = map (recalled_at S (is i)) (range_with_len 0 (length (is i).rows)) })
     ∙ sym (ap (λ n. after_rounds S n start) more)
 
+-- what is safe at a scan is safe whatever the truths of the memories are
+pub safe_again : (before after : Seen) {test : List Var → List Memory → Bool} → ((t : ℕ) → IsSafeBy (view_at before t) test)
+    → after.rows ≡ before.rows → after.past ≡ before.past → (t : ℕ) → IsSafeBy (view_at after t) test
+safe_again before after safe rows past t = let s = safe t in record {
+  vars = s.vars;
+  memories = s.memories;
+  keeps = record {
+    now = λ x. subst (λ scans. unsigned_abs (slice_index_or (slice_index_or scans t []) x (pos 0)) ≤ var_size (slice_get s.vars x)) (sym rows) (s.keeps.now x);
+    before = λ x. subst (λ scans. unsigned_abs (slice_index_or (slice_index_or scans t []) x (pos 0)) ≤ var_size (slice_get s.vars x)) (sym past) (s.keeps.before x);
+    age = s.keeps.age;
+  };
+  small = s.small;
+}
+
 module _ (S : Tables) (start : Seen) where
   -- rounds change the truths of memories alone
   pub rows_kept : (k : ℕ) → (after_rounds S k start).rows ≡ start.rows
@@ -103,8 +118,8 @@ module _ (S : Tables) (start : Seen) where
   past_kept zero = refl
   past_kept (suc k) = past_kept k
 
-  pub can_after : {test : List Var → List Memory → Bool} (k : ℕ) → CanTell start test → CanTell (after_rounds S k start) test
-  can_after k h = can_again h (rows_kept k) (past_kept k)
+  pub safe_after : {test : List Var → List Memory → Bool} (k : ℕ) → ((t : ℕ) → IsSafeBy (view_at start t) test) → (t : ℕ) → IsSafeBy (view_at (after_rounds S k start) t) test
+  safe_after k h = safe_again start (after_rounds S k start) h (rows_kept k) (past_kept k)
 
   pub rounds_join : (m n : ℕ) → after_rounds S m (after_rounds S n start) ≡ after_rounds S (m + n) start
   rounds_join zero n = let none : n ≡ 0 + n = omega arith in ap (λ k. after_rounds S k start) none
@@ -116,10 +131,10 @@ module _ (S : Tables) (start : Seen) where
 -- two lists, side by side
 module _ {A B : Type 0} (p : A × B → Bool) where
   pub pair_next : (xs : List A) (ys : List B) (k : ℕ) (x : A) (y : B) → k < length xs → k < length ys → slice_index_or xs k x ≡ x → slice_index_or ys k y ≡ y
-      → list_any p (take k (zip xs ys)) ≡ false → p (x, y) ≡ false → list_any p (take (suc k) (zip xs ys)) ≡ false
+      → list_any p (take k (zip xs ys)) ≡ false → false ≡ p (x, y) → list_any p (take (suc k) (zip xs ys)) ≡ false
   pair_next [] ys k x y lx ly ex ey past here = refl
   pair_next (a ∷ xs) [] k x y lx ly ex ey past here = refl
-  pair_next (a ∷ xs) (b ∷ ys) zero x y lx ly ex ey past here = (λ i. p (ex i, ey i) || false) ∙ ap (λ z. z || false) here
+  pair_next (a ∷ xs) (b ∷ ys) zero x y lx ly ex ey past here = (λ i. p (ex i, ey i) || false) ∙ ap (λ z. z || false) (sym here)
   pair_next (a ∷ xs) (b ∷ ys) (suc k) x y lx ly ex ey past here =
       let both = or_parts (p (a, b)) past in
       (λ i. both.0 i || pair_next xs ys k x y (omega (arith, lx)) (omega (arith, ly)) ex ey both.1 here i)
@@ -129,10 +144,10 @@ module _ {A B : Type 0} (p : A × B → Bool) where
       or_parts false e = (refl, e)
 
   pub pair_at : (xs : List A) (ys : List B) (k : ℕ) (x : A) (y : B) → k < length xs → k < length ys → slice_index_or xs k x ≡ x → slice_index_or ys k y ≡ y
-      → p (x, y) ≡ true → list_any p (zip xs ys) ≡ true
+      → true ≡ p (x, y) → list_any p (zip xs ys) ≡ true
   pair_at [] ys k x y lx ly ex ey here = absurd (omega (arith, lx))
   pair_at (a ∷ xs) [] k x y lx ly ex ey here = absurd (omega (arith, ly))
-  pair_at (a ∷ xs) (b ∷ ys) zero x y lx ly ex ey here = or_left (p (a, b)) (list_any p (zip xs ys)) ((λ i. p (ex i, ey i)) ∙ here)
+  pair_at (a ∷ xs) (b ∷ ys) zero x y lx ly ex ey here = or_left (p (a, b)) (list_any p (zip xs ys)) ((λ i. p (ex i, ey i)) ∙ sym here)
   pair_at (a ∷ xs) (b ∷ ys) (suc k) x y lx ly ex ey here =
       or_right (p (a, b)) (list_any p (zip xs ys)) (pair_at xs ys k x y (omega (arith, lx)) (omega (arith, ly)) ex ey here)
 
@@ -148,9 +163,9 @@ module _ {A B : Type 0} (p : A × B → Bool) where
 
 -- a test over a list, at an item and at its end
 module _ {A : Type 0} (p : A → Bool) where
-  pub any_in : (xs : List A) (a : A) → Contains xs a → p a ≡ true → list_any p xs ≡ true
+  pub any_in : (xs : List A) (a : A) → Contains xs a → true ≡ p a → list_any p xs ≡ true
   any_in [] a c h = absurd (omega (arith, c.1))
-  any_in (x ∷ xs) a (zero, low, is) h = or_left (p x) (list_any p xs) (ap p is ∙ h)
+  any_in (x ∷ xs) a (zero, low, is) h = or_left (p x) (list_any p xs) (ap p is ∙ sym h)
   any_in (x ∷ xs) a (suc k, low, is) h = or_right (p x) (list_any p xs) (any_in xs a (k, omega (arith, low), is) h)
 
   pub any_end : (xs : List A) (k : ℕ) → length xs ≤ k → list_any p (take k xs) ≡ false → list_any p xs ≡ false

@@ -84,7 +84,7 @@ module _ (S : Tables) (wf : IsWellFormed S) (proper : AllProper S) (s : Side) wh
         (given_or_defined S wf s x on.0 on.1)
 
     -- two readings that follow the tables at a scan agree there
-    same_scan : (x : ℕ) → IsOf S (side_kinds s) x → a t x ≡ b t x
+    pub same_scan : (x : ℕ) → IsOf S (side_kinds s) x → a t x ≡ b t x
     same_scan x on = same_below (suc (wf.rank (at_now x))) x on (omega arith)
 
   -- readings that agree up to a scan follow the tables alike there

@@ -4,11 +4,9 @@ use Rattle.ft_core.specs.declared.tables.Side.TheVariants as side
 use Rattle.ft_mean.specs.Reading.{Scans}
 use Rattle.ft_mean.specs.Memory.{memory_within}
 use Rattle.ft_mean.specs.Fits.{Fits}
-use Rattle.ft_mean.proofs.Agree.{value-Num, value-Now, value-Prev, value-Add, truth-Yes, truth-Compare, truth-Memory, truth-Not, truth-And}
-use Rattle.ft_mean.proofs.Passes.{fits}
+use Rattle.ft_mean.proofs.Agree.{evaluation}
+use Rattle.ft_mean.proofs.TraceTests.{fits}
 use Rattle.ft_mean.proofs.TripSet.{trip}
-
-ruleset evaluation = (value-Num, value-Now, value-Prev, value-Add, truth-Yes, truth-Compare, truth-Memory, truth-Not, truth-And)
 
 abbrev numbers : List (List ℕ) → Scans
 numbers = map (map pos)

@@ -28,11 +28,11 @@ use Rattle.ft_mean.specs.Reading.{IsVar}
 abbrev pub IsTable : Tables → Section → ℕ → Table → Type 0
 IsTable S section k table = (slice_get S.tables k ≡ Some table) × (table.section ≡ section)
 
--- what an item reads is read by the list
-read_at : {A : Type 0} (f : A → List Read) (xs : List A) (i : ℕ) (x : A) (r : Read) → slice_get xs i ≡ Some x → Contains (f x) r → Contains (flat_map f xs) r
-read_at f [] i x r e c = absurd (none-some x e)
-read_at f (y ∷ ys) zero x r e c = Contains-append_left (f y) (flat_map f ys) r (subst (λ z. Contains (f z) r) (sym (same_Some y x e)) c)
-read_at f (y ∷ ys) (suc i) x r e c = Contains-append_right (f y) (flat_map f ys) r (read_at f ys i x r e c)
+-- what one of the items has, all have together
+pub in_all : {A B : Type 0} (f : A → List B) (xs : List A) (k : ℕ) (a : A) (b : B) → slice_get xs k ≡ Some a → Contains (f a) b → Contains (flat_map f xs) b
+in_all f [] k a b e c = absurd (none-some a e)
+in_all f (x ∷ xs) zero a b e c = Contains-append_left (f x) (flat_map f xs) b (subst (λ y. Contains (f y) b) (sym (same_Some x a e)) c)
+in_all f (x ∷ xs) (suc k) a b e c = Contains-append_right (f x) (flat_map f xs) b (in_all f xs k a b e c)
 
 abbrev pub IsOf : Tables → Kinds → ℕ → Type 0
 IsOf S kinds x = (v : Var) × IsVar S kinds x v
@@ -81,7 +81,7 @@ pub record IsWellFormed (S : Tables) : Type 0 where
   pub rank : Read → ℕ
   pub order : IsOrder S rank
 
-same_section : (a b : Section) → is_section a b ≡ true → a ≡ b
+pub same_section : (a b : Section) → is_section a b ≡ true → a ≡ b
 same_section section.In section.In e = refl
 same_section section.Req section.Req e = refl
 same_section section.Sof section.Sof e = refl
@@ -108,7 +108,7 @@ section_self section.Out = refl
 pub is_for_from : (section : Section) (x : ℕ) (table : Table) → table.section ≡ section → IsTrue (defines table.grid x) → is_for section x table ≡ true
 is_for_from section x table e d = and_from (is_section table.section section) (defines table.grid x) (ap (is_section table.section) (sym e) ∙ section_self table.section) d
 
-same_side : (a b : Side) → is_side a b ≡ true → a ≡ b
+pub same_side : (a b : Side) → is_side a b ≡ true → a ≡ b
 same_side side.Req side.Req e = refl
 same_side side.Sof side.Sof e = refl
 same_side side.Req side.Sof e = absurd (true≢false (sym e))
@@ -218,6 +218,11 @@ module _ (vars : List Var) (memories : List Memory) (tables : List Table) where
   pub ranked : ∥ HasOrder vars memories tables ∥₁ → IsRank vars memories tables whole
   ranked h = ∥∥₁_elim h (hlevel props) (λ o. level_rank o.0 o.1)
 
+-- a table of a side for a variable is one that it reads by
+pub of_side : (s : Side) (x : ℕ) (table : Table) → is_for (section_of s) x table ≡ true → (is_for section.Req x table || is_for section.Sof x table) ≡ true
+of_side side.Req x table e = or_left (is_for section.Req x table) (is_for section.Sof x table) e
+of_side side.Sof x table e = or_right (is_for section.Req x table) (is_for section.Sof x table) e
+
 pub opened : (S : Tables) → IsWellFormed S
 opened S = let h = S.sound in record {
   goes_on = omega (arith, ints, h.has_period.0);
@@ -237,12 +242,8 @@ opened S = let h = S.sound in record {
   order = let rank = ranked S.vars S.memories S.tables h.order in record {
     bounded = rank.bounded;
     tables = λ s k table x r is d c now. rank.falls (at_now x) r
-        (read_at (λ (t : Table). cond (is_for section.Req x t || is_for section.Sof x t) (flat_map cell_reads (cells_for x t.grid)) []) S.tables k table r is.0
+        (in_all (λ (t : Table). cond (is_for section.Req x t || is_for section.Sof x t) (flat_map cell_reads (cells_for x t.grid)) []) S.tables k table r is.0
         (subst (λ b. Contains (cond b (flat_map cell_reads (cells_for x table.grid)) []) r) (sym (of_side s x table (is_for_from (section_of s) x table is.1 d))) c)) now;
     memories = λ m r c now. rank.falls (of_memory m) r c now;
   };
 }
-  where
-    of_side : (s : Side) (x : ℕ) (table : Table) → is_for (section_of s) x table ≡ true → (is_for section.Req x table || is_for section.Sof x table) ≡ true
-    of_side side.Req x table e = or_left (is_for section.Req x table) (is_for section.Sof x table) e
-    of_side side.Sof x table e = or_right (is_for section.Req x table) (is_for section.Sof x table) e

@@ -4,10 +4,13 @@ pub mod Fits
 pub mod Laws
 pub mod Memory
 pub mod Moves
+pub mod OneColumn
 pub mod Part
 pub mod Past
 pub mod Proper
 pub mod Reading
 pub mod Refines
+pub mod Safe
 pub mod Seen
+pub mod TripSet
 pub mod Value

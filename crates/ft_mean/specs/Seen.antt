@@ -1,18 +1,15 @@
 -- What is known of finished scans: a value of each variable of the set at each scan and one scan before, and the truth of each
 -- memory there.
-use Rattle.std.specs.Prelude.{ℕ, zero, suc, ◌≤◌, ◌-◌, ◌*ℤ◌, ℤ, pos, negsuc, unsigned_abs, Bool, false, ◌&&◌, ◌==◌, List, [], map, length, slice_get, slice_index_or, IsTrue}
-use Rattle.std.specs.List.{list_all, list_any, zip, range_with_len}
+use Rattle.std.specs.Prelude.{ℕ, zero, suc, ◌-◌, ◌*ℤ◌, ℤ, pos, negsuc, Bool, false, ◌&&◌, ◌==◌, List, [], map, length, slice_index_or}
+use Rattle.std.specs.List.{list_any, zip, range_with_len}
 use Rattle.std.specs.Ordering.{int_eq}
 use Rattle.ft_core.specs.declared.tables.Tables.{Tables}
-use Rattle.ft_core.specs.declared.tables.Var.{Var}
 use Rattle.ft_core.specs.declared.tables.Memory.{Memory}
 use Rattle.ft_core.specs.declared.tables.Memory.TheVariants.{Held, Hyst}
-use Rattle.ft_core.specs.declared.tables.Table.{Table}
 use Rattle.ft_core.specs.declared.tables.Grid.{Grid}
 use Rattle.ft_core.specs.declared.tables.Grid.TheVariants.{Normal, Inverted, Vector}
 use Rattle.ft_core.specs.declared.term.Term.{Term}
 use Rattle.ft_core.specs.declared.term.Cond.{Cond}
-use Rattle.ft_core.specs.Size.{var_size, age_size, is_sized_term, is_sized, is_sized_memory, is_sized_grid}
 use Rattle.ft_mean.specs.declared.seen.Seen.{Seen}
 use Rattle.ft_mean.specs.Past.{held, hyst}
 use Rattle.ft_mean.specs.Value.{View, value, truth}
@@ -25,49 +22,6 @@ view_at seen t = record {
   age = λ m. negsuc 0;
   memory = λ m. slice_index_or (slice_index_or seen.bits t []) m false;
 }
-
--- a view whose numbers are within the sizes of these variables and memories
-pub record IsSized (vars : List Var) (memories : List Memory) (V : View) : Type 0 where
-  pub now : (x : ℕ) → unsigned_abs (V.now x) ≤ var_size (slice_get vars x)
-  pub before : (x : ℕ) → unsigned_abs (V.before x) ≤ var_size (slice_get vars x)
-  pub age : (m : ℕ) → unsigned_abs (V.age m) ≤ age_size (slice_get memories m)
-
--- each scan is within the sizes of some variables and memories over which a test of sizes passes, so that 64 bits are enough
-pub record CanTell (seen : Seen) (test : List Var → List Memory → Bool) : Type 0 where
-  pub vars : List Var
-  pub memories : List Memory
-  pub sized : (t : ℕ) → IsSized vars memories (view_at seen t)
-  pub small : IsTrue (test vars memories)
-
-abbrev pub CanTerm : Seen → Term → Type 0
-CanTerm seen e = CanTell seen (λ vars memories. is_sized_term vars memories e)
-
-abbrev pub CanCond : Seen → Cond → Type 0
-CanCond seen c = CanTell seen (λ vars memories. is_sized vars memories c)
-
-abbrev pub CanTerms : Seen → List Term → Type 0
-CanTerms seen es = CanTell seen (λ vars memories. list_all (is_sized_term vars memories) es)
-
-abbrev pub CanConds : Seen → List Cond → Type 0
-CanConds seen cs = CanTell seen (λ vars memories. list_all (is_sized vars memories) cs)
-
-abbrev pub CanTermRows : Seen → List (List Term) → Type 0
-CanTermRows seen rows = CanTell seen (λ vars memories. list_all (list_all (is_sized_term vars memories)) rows)
-
-abbrev pub CanCondRows : Seen → List (List Cond) → Type 0
-CanCondRows seen rows = CanTell seen (λ vars memories. list_all (list_all (is_sized vars memories)) rows)
-
-abbrev pub CanGrid : Seen → Grid → Type 0
-CanGrid seen g = CanTell seen (λ vars memories. is_sized_grid vars memories g)
-
-abbrev pub CanTables : Seen → List Table → Type 0
-CanTables seen tables = CanTell seen (λ vars memories. list_all (λ table. is_sized_grid vars memories table.grid) tables)
-
-abbrev pub CanMemory : Seen → Memory → Type 0
-CanMemory seen m = CanTell seen (λ vars memories. is_sized_memory vars memories m)
-
-abbrev pub CanMemories : Seen → List Memory → Type 0
-CanMemories seen ms = CanTell seen (λ vars memories. list_all (is_sized_memory vars memories) ms)
 
 -- a memory at scan t, where the truths of the memories that it reads are those seen
 abbrev pub recalled : (period : ℤ) → Seen → Memory → ℕ → Bool

@@ -4,123 +4,112 @@ ghost use Rattle.std.specs.Ordering.{int_eq};
 ghost use Rattle.std.specs.List.{list_any, zip};
 ghost use Rattle.ft_core.specs.Grids.{is_section};
 ghost use Rattle.ft_mean.specs.Cells.{defined};
-ghost use Rattle.ft_mean.specs.Seen.{CanTerm, CanCond, CanTerms, CanConds, CanTermRows, CanCondRows, CanGrid, CanTables};
-ghost use Rattle.ft_mean.specs.Seen.{view_at, gives_in, row_gives, grid_gives};
+ghost use Rattle.ft_mean.specs.Safe.{IsSafe, IsSafeCond, IsSafeGrid, AreSafe, AreSafeConds, AreSafeRows, AreSafeCondRows, AreSafeTables};
+ghost use Rattle.ft_mean.specs.Seen.{gives_in, row_gives, grid_gives};
 ghost use Rattle.ft_mean.specs.Value.{value, truth};
 
-use crate::seen::Seen;
-use crate::value::{truth_of, value_of};
+use crate::evaluating::{truth_of, value_of};
+use crate::look::Look;
 use ft_base::List;
 use ft_core::{Cond, Grid, Section, Table, Tables, Term};
 
-fn is_entry(cond: &Cond, term: &Term, seen: &Seen, scan: usize, wanted: i64) -> bool
-    requires cond { CanCond seen.now cond.now }
-    requires term { CanTerm seen.now term.now }
-    ensures { result ≡ (truth (view_at seen.now scan) cond.now && int_eq wanted (value (view_at seen.now scan) term.now)) }
+fn is_entry<L: Look>(cond: &Cond, term: &Term, look: &L, wanted: i64) -> bool
+    requires cond { IsSafeCond (L.view look.now) cond.now }
+    requires term { IsSafe (L.view look.now) term.now }
+    ensures { result ≡ (truth (L.view look.now) cond.now && int_eq wanted (value (L.view look.now) term.now)) }
 {
-    truth_of(cond, seen, scan) && wanted == value_of(term, seen, scan)
+    truth_of(cond, look) && wanted == value_of(term, look)
 }
 
 /// Whether one of the terms whose condition is true has this value.
-fn has_entry(conds: &[Cond], terms: &[Term], seen: &Seen, scan: usize, wanted: i64) -> bool
-    requires conds { CanConds seen.now conds.now }
-    requires terms { CanTerms seen.now terms.now }
-    ensures { result ≡ gives_in (view_at seen.now scan) wanted conds.now terms.now }
+fn has_entry<L: Look>(conds: &[Cond], terms: &[Term], look: &L, wanted: i64) -> bool
+    requires conds { AreSafeConds (L.view look.now) conds.now }
+    requires terms { AreSafe (L.view look.now) terms.now }
+    ensures { result ≡ gives_in (L.view look.now) wanted conds.now terms.now }
 {
     for at in 0..conds.len().min(terms.len()) {
-        if is_entry(&conds[at], &terms[at], seen, scan, wanted) {
+        if is_entry(&conds[at], &terms[at], look, wanted) {
             return true;
         }
     }
     false
 }
 
-fn row_has(
-    row: &Cond,
-    conds: &[Cond],
-    terms: &[Term],
-    seen: &Seen,
-    scan: usize,
-    wanted: i64,
-) -> bool
-    requires row { CanCond seen.now row.now }
-    requires conds { CanConds seen.now conds.now }
-    requires terms { CanTerms seen.now terms.now }
-    ensures { result ≡ row_gives (view_at seen.now scan) wanted row.now conds.now terms.now }
+fn row_has<L: Look>(row: &Cond, conds: &[Cond], terms: &[Term], look: &L, wanted: i64) -> bool
+    requires row { IsSafeCond (L.view look.now) row.now }
+    requires conds { AreSafeConds (L.view look.now) conds.now }
+    requires terms { AreSafe (L.view look.now) terms.now }
+    ensures { result ≡ row_gives (L.view look.now) wanted row.now conds.now terms.now }
 {
-    truth_of(row, seen, scan) && has_entry(conds, terms, seen, scan, wanted)
+    truth_of(row, look) && has_entry(conds, terms, look, wanted)
 }
 
-fn normal_has(
+fn normal_has<L: Look>(
     columns: &[Cond],
     rows: &[Cond],
     terms: &[List<Term>],
-    seen: &Seen,
-    scan: usize,
+    look: &L,
     wanted: i64,
 ) -> bool
-    requires columns { CanConds seen.now columns.now }
-    requires rows { CanConds seen.now rows.now }
-    requires terms { CanTermRows seen.now terms.now }
-    ensures { result ≡ list_any (λ r. row_gives (view_at seen.now scan) wanted r.0 columns.now r.1) (zip rows.now terms.now) }
+    requires columns { AreSafeConds (L.view look.now) columns.now }
+    requires rows { AreSafeConds (L.view look.now) rows.now }
+    requires terms { AreSafeRows (L.view look.now) terms.now }
+    ensures { result ≡ list_any (λ r. row_gives (L.view look.now) wanted r.0 columns.now r.1) (zip rows.now terms.now) }
 {
     for at in 0..rows.len().min(terms.len()) {
-        if row_has(&rows[at], columns, terms[at].as_slice(), seen, scan, wanted) {
+        if row_has(&rows[at], columns, terms[at].as_slice(), look, wanted) {
             return true;
         }
     }
     false
 }
 
-fn inverted_has(
+fn inverted_has<L: Look>(
     terms: &[Term],
     rows: &[Cond],
     grid: &[List<Cond>],
-    seen: &Seen,
-    scan: usize,
+    look: &L,
     wanted: i64,
 ) -> bool
-    requires terms { CanTerms seen.now terms.now }
-    requires rows { CanConds seen.now rows.now }
-    requires grid { CanCondRows seen.now grid.now }
-    ensures { result ≡ list_any (λ r. row_gives (view_at seen.now scan) wanted r.0 r.1 terms.now) (zip rows.now grid.now) }
+    requires terms { AreSafe (L.view look.now) terms.now }
+    requires rows { AreSafeConds (L.view look.now) rows.now }
+    requires grid { AreSafeCondRows (L.view look.now) grid.now }
+    ensures { result ≡ list_any (λ r. row_gives (L.view look.now) wanted r.0 r.1 terms.now) (zip rows.now grid.now) }
 {
     for at in 0..rows.len().min(grid.len()) {
-        if row_has(&rows[at], grid[at].as_slice(), terms, seen, scan, wanted) {
+        if row_has(&rows[at], grid[at].as_slice(), terms, look, wanted) {
             return true;
         }
     }
     false
 }
 
-fn target_has(
+fn target_has<L: Look>(
     target: u32,
     variable: usize,
     columns: &[Cond],
     terms: &[Term],
-    seen: &Seen,
-    scan: usize,
+    look: &L,
     wanted: i64,
 ) -> bool
-    requires columns { CanConds seen.now columns.now }
-    requires terms { CanTerms seen.now terms.now }
-    ensures { result ≡ ((target == variable) && gives_in (view_at seen.now scan) wanted columns.now terms.now) }
+    requires columns { AreSafeConds (L.view look.now) columns.now }
+    requires terms { AreSafe (L.view look.now) terms.now }
+    ensures { result ≡ ((target == variable) && gives_in (L.view look.now) wanted columns.now terms.now) }
 {
-    target as usize == variable && has_entry(columns, terms, seen, scan, wanted)
+    target as usize == variable && has_entry(columns, terms, look, wanted)
 }
 
-fn vector_has(
+fn vector_has<L: Look>(
     columns: &[Cond],
     targets: &[u32],
     terms: &[List<Term>],
     variable: usize,
-    seen: &Seen,
-    scan: usize,
+    look: &L,
     wanted: i64,
 ) -> bool
-    requires columns { CanConds seen.now columns.now }
-    requires terms { CanTermRows seen.now terms.now }
-    ensures { result ≡ list_any (λ r. (r.0 == variable) && gives_in (view_at seen.now scan) wanted columns.now r.1)
+    requires columns { AreSafeConds (L.view look.now) columns.now }
+    requires terms { AreSafeRows (L.view look.now) terms.now }
+    ensures { result ≡ list_any (λ r. (r.0 == variable) && gives_in (L.view look.now) wanted columns.now r.1)
         (zip targets.now terms.now) }
 {
     for at in 0..targets.len().min(terms.len()) {
@@ -129,8 +118,7 @@ fn vector_has(
             variable,
             columns,
             terms[at].as_slice(),
-            seen,
-            scan,
+            look,
             wanted,
         ) {
             return true;
@@ -140,9 +128,9 @@ fn vector_has(
 }
 
 /// Whether some cell of a table, for a variable, that holds at a scan has this value.
-pub(crate) fn grid_has(grid: &Grid, variable: usize, seen: &Seen, scan: usize, wanted: i64) -> bool
-    requires { CanGrid seen.now grid.now }
-    ensures { result ≡ grid_gives (view_at seen.now scan) variable wanted grid.now }
+pub(crate) fn grid_has<L: Look>(grid: &Grid, variable: usize, look: &L, wanted: i64) -> bool
+    requires { IsSafeGrid (L.view look.now) grid.now }
+    ensures { result ≡ grid_gives (L.view look.now) variable wanted grid.now }
 {
     match grid {
         Grid::Normal {
@@ -156,8 +144,7 @@ pub(crate) fn grid_has(grid: &Grid, variable: usize, seen: &Seen, scan: usize, w
                     columns.as_slice(),
                     rows.as_slice(),
                     terms.as_slice(),
-                    seen,
-                    scan,
+                    look,
                     wanted,
                 )
         }
@@ -172,8 +159,7 @@ pub(crate) fn grid_has(grid: &Grid, variable: usize, seen: &Seen, scan: usize, w
                     terms.as_slice(),
                     rows.as_slice(),
                     grid.as_slice(),
-                    seen,
-                    scan,
+                    look,
                     wanted,
                 )
         }
@@ -187,27 +173,25 @@ pub(crate) fn grid_has(grid: &Grid, variable: usize, seen: &Seen, scan: usize, w
                 targets.as_slice(),
                 terms.as_slice(),
                 variable,
-                seen,
-                scan,
+                look,
                 wanted,
             )
         }
     }
 }
 
-fn table_has(
+fn table_has<L: Look>(
     table: &Table,
     section: Section,
     variable: usize,
-    seen: &Seen,
-    scan: usize,
+    look: &L,
     wanted: i64,
 ) -> bool
-    requires { CanGrid seen.now table.now.grid }
+    requires { IsSafeGrid (L.view look.now) table.now.grid }
     ensures { result ≡ (is_section table.now.section section
-        && grid_gives (view_at seen.now scan) variable wanted table.now.grid) }
+        && grid_gives (L.view look.now) variable wanted table.now.grid) }
 {
-    is_same(table.section, section) && grid_has(&table.grid, variable, seen, scan, wanted)
+    is_same(table.section, section) && grid_has(&table.grid, variable, look, wanted)
 }
 
 fn is_same(a: Section, b: Section) -> bool
@@ -217,19 +201,18 @@ fn is_same(a: Section, b: Section) -> bool
 }
 
 /// Whether some cell of the tables of a section, for a variable, that holds at a scan has this value.
-pub(crate) fn is_defined(
+pub(crate) fn is_defined<L: Look>(
     tables: &Tables,
     section: Section,
     variable: usize,
-    seen: &Seen,
-    scan: usize,
+    look: &L,
     wanted: i64,
 ) -> bool
-    requires { CanTables seen.now tables.now.tables }
-    ensures { result ≡ defined tables.now section (view_at seen.now scan) variable wanted }
+    requires { AreSafeTables (L.view look.now) tables.now.tables }
+    ensures { result ≡ defined tables.now section (L.view look.now) variable wanted }
 {
     for table in tables.tables.as_slice() {
-        if table_has(table, section, variable, seen, scan, wanted) {
+        if table_has(table, section, variable, look, wanted) {
             return true;
         }
     }

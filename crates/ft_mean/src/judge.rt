@@ -1,19 +1,19 @@
 //! The plain and slow judge of a whole trace.
-ghost use Rattle.std.specs.Prelude.{◌≡◌, ◌<◌, ◌↔◌, length, IsTrue, IfOk};
-ghost use Rattle.ft_core.specs.Kinds.{section_of};
+ghost use Rattle.std.specs.Prelude.{ℕ, ◌≡◌, ◌<◌, ◌↔◌, length, IsTrue, IfOk};
 ghost use Rattle.ft_mean.specs.Fits.{Fits};
 ghost use Rattle.ft_mean.specs.Part.{kinds_of, is_inside, in_range, is_row, is_list, are_lists};
 ghost use Rattle.ft_mean.specs.Part.{at_all, has_given, has_table, is_right, follows_by};
-ghost use Rattle.ft_mean.specs.Seen.{CanTables};
+ghost use Rattle.ft_mean.specs.Safe.{AreSafeTables};
+ghost use Rattle.ft_mean.specs.Seen.{view_at};
 
 use crate::cells::is_defined;
 use crate::part::{Part, count_of, is_of, told};
 use crate::recall::recall_all;
-use crate::seen::Seen;
+use crate::seen::{Seen, SeenAt};
 use crate::telling::seen_of;
 use crate::trace::Trace;
 use ft_base::NoMemory;
-use ft_core::{History, Section, Side, Tables};
+use ft_core::{History, Side, Tables};
 use std::alloc::Global;
 
 fn is_inside(tables: &Tables, variable: usize, value: i64) -> bool
@@ -78,15 +78,6 @@ fn has_given(
             == told(tables, Part::Given(side), given, scan, variable)
 }
 
-fn section_of(side: Side) -> Section
-    ensures { result ≡ section_of side }
-{
-    match side {
-        Side::Req => Section::Req,
-        Side::Sof => Section::Sof,
-    }
-}
-
 fn has_table(
     tables: &Tables,
     side: Side,
@@ -95,16 +86,15 @@ fn has_table(
     scan: usize,
     variable: usize,
 ) -> bool
-    requires { CanTables seen.now tables.now.tables }
+    requires { AreSafeTables (view_at seen.now scan) tables.now.tables }
     ensures { result ≡ has_table tables.now side trace.now seen.now scan variable }
 {
     !is_of(tables, Part::Defined(side), variable)
         || is_defined(
             tables,
-            section_of(side),
+            side.section(),
             variable,
-            seen,
-            scan,
+            &SeenAt { seen, scan },
             told(tables, Part::Whole(side), trace, scan, variable),
         )
 }
@@ -118,7 +108,7 @@ fn is_right(
     scan: usize,
     variable: usize,
 ) -> bool
-    requires { CanTables seen.now tables.now.tables }
+    requires { AreSafeTables (view_at seen.now scan) tables.now.tables }
     ensures { result ≡ is_right tables.now side given.now trace.now seen.now scan variable }
 {
     has_given(tables, side, given, trace, scan, variable)
@@ -133,7 +123,7 @@ fn follows_at(
     seen: &Seen,
     scan: usize,
 ) -> bool
-    requires { CanTables seen.now tables.now.tables }
+    requires { AreSafeTables (view_at seen.now scan) tables.now.tables }
     ensures { result ≡ at_all tables.now (is_right tables.now side given.now trace.now seen.now scan) }
 {
     for variable in 0..tables.vars.len() {
@@ -146,7 +136,7 @@ fn follows_at(
 
 /// Whether each variable of the side has its given value or the value of its table at each scan.
 fn follows(tables: &Tables, side: Side, given: &History, trace: &Trace, seen: &Seen) -> bool
-    requires { CanTables seen.now tables.now.tables }
+    requires { (t : ℕ) → AreSafeTables (view_at seen.now t) tables.now.tables }
     ensures { result ≡ follows_by tables.now side given.now trace.now seen.now }
 {
     for scan in 0..trace.scans() {

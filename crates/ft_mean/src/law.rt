@@ -1,5 +1,4 @@
 ghost use Rattle.ft_mean.specs.Laws.{FitsOneTrace, HasOneImage, HeldIsFullAge, MemoriesMove, MapsByScan, OutputsAlone, AllowedByScan};
-ghost use Rattle.ft_mean.specs.Refines.{Refines, FirstDiffers, ShortSafe};
 
 /// Where every table is proper, every given list in range fits exactly one trace of its side.
 pub fn one_trace()

@@ -1,7 +1,7 @@
 //! Which variables a list of scans has values of, and what it tells of each variable of the set.
 ghost use Rattle.std.specs.Prelude.{◌≡◌, take};
 ghost use Rattle.std.specs.List.{count_by};
-ghost use Rattle.ft_core.specs.Kinds.{given_kinds, defined_kinds, section_of, count_of, place_of, is_of};
+ghost use Rattle.ft_core.specs.Kinds.{count_of, place_of, is_of};
 ghost use Rattle.ft_mean.specs.Part.{kinds_of};
 ghost use Rattle.ft_mean.specs.Reading.{init_of, reading_of, before};
 
@@ -19,37 +19,16 @@ pub(crate) enum Part {
     Whole(Side),
 }
 
-/// Whether a side is given the variables of a kind.
-fn is_given(side: Side, kind: VarKind) -> bool
-    ensures { result ≡ given_kinds side kind }
-{
-    match (side, kind) {
-        (Side::Req, VarKind::Mon) => true,
-        (Side::Sof, VarKind::Input) => true,
-        _ => false,
-    }
-}
-
-/// Whether the tables of a side define the variables of a kind.
-fn is_by_table(side: Side, kind: VarKind) -> bool
-    ensures { result ≡ defined_kinds (section_of side) kind }
-{
-    match (side, kind) {
-        (Side::Req, VarKind::Con) => true,
-        (Side::Req, VarKind::ReqInner) => true,
-        (Side::Sof, VarKind::Output) => true,
-        (Side::Sof, VarKind::SofInner) => true,
-        _ => false,
-    }
-}
-
-fn has(part: Part, kind: VarKind) -> bool
-    ensures { result ≡ kinds_of part kind }
-{
-    match part {
-        Part::Given(side) => is_given(side, kind),
-        Part::Defined(side) => is_by_table(side, kind),
-        Part::Whole(side) => is_given(side, kind) || is_by_table(side, kind),
+impl Part {
+    /// Whether the variables of a kind belong to it.
+    fn has(self, kind: VarKind) -> bool
+        ensures { result ≡ kinds_of self kind }
+    {
+        match self {
+            Part::Given(side) => side.is_given(kind),
+            Part::Defined(side) => side.section().defines(kind),
+            Part::Whole(side) => side.has(kind),
+        }
     }
 }
 
@@ -59,7 +38,7 @@ fn count_before(part: Part, vars: &[Var], variable: usize) -> usize
 {
     vars.iter()
         .take(variable)
-        .filter(|var| has(part, var.kind))
+        .filter(|var| part.has(var.kind))
         .count()
 }
 
@@ -73,7 +52,7 @@ fn place_of(part: Part, vars: &[Var], variable: usize) -> usize
 fn count_in(part: Part, vars: &[Var]) -> usize
     ensures { result ≡ count_by (λ v. kinds_of part v.kind) vars.now }
 {
-    vars.iter().filter(|var| has(part, var.kind)).count()
+    vars.iter().filter(|var| part.has(var.kind)).count()
 }
 
 /// How many variables are of a part.
@@ -88,7 +67,7 @@ pub(crate) fn is_of(tables: &Tables, part: Part, variable: usize) -> bool
     ensures { result ≡ is_of tables.now.vars (kinds_of part) variable }
 {
     match tables.vars.as_slice().get(variable) {
-        Some(var) => has(part, var.kind),
+        Some(var) => part.has(var.kind),
         None => false,
     }
 }

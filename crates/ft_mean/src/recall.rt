@@ -1,14 +1,15 @@
 //! The truth of memories, by looking back over the scans.
-ghost use Rattle.std.specs.Prelude.{◌≡◌, ◌-◌, ◌≤◌, ◌<◌, ◌+◌, ◌&&◌};
+ghost use Rattle.std.specs.Prelude.{ℕ, ◌≡◌, ◌-◌, ◌≤◌, ◌<◌, ◌+◌, ◌&&◌};
 ghost use Rattle.std.specs.Prelude.{pos, ◌*ℤ◌, int_le, unsigned_abs, map, length, IfOk};
 ghost use Rattle.std.specs.List.{list_all, range_with_len};
 ghost use Rattle.ft_core.specs.Sound.{IsHold, IsPeriod};
 ghost use Rattle.ft_mean.specs.Past.{scans, held, hyst};
-ghost use Rattle.ft_mean.specs.Seen.{CanTerm, CanCond, CanMemory, CanMemories, view_at, recalled, recalled_at, after_rounds};
+ghost use Rattle.ft_mean.specs.Safe.{IsSafe, IsSafeCond, IsSafeMemory, AreSafeMemories};
+ghost use Rattle.ft_mean.specs.Seen.{view_at, recalled, recalled_at, after_rounds};
 ghost use Rattle.ft_mean.specs.Value.{value, truth};
 
-use crate::seen::Seen;
-use crate::value::{truth_of, value_of};
+use crate::evaluating::{truth_of, value_of};
+use crate::seen::{Seen, SeenAt};
 use ft_base::{List, NoMemory};
 use ft_core::{Cond, Memory, Tables, Term};
 use std::alloc::Global;
@@ -31,12 +32,12 @@ fn have_lasted(scans: usize, period: i64, hold: i64) -> bool
 
 /// Whether a condition is true at all scans from one to another.
 fn is_true_from(cond: &Cond, seen: &Seen, from: usize, to: usize) -> bool
-    requires can { CanCond seen.now cond.now }
+    requires safe { (t : ℕ) → IsSafeCond (view_at seen.now t) cond.now }
     requires last { to + 1 < 18446744073709551616 }
     ensures { result ≡ list_all (λ j. truth (view_at seen.now j) cond.now) (scans from to) }
 {
     for scan in from..to + 1 {
-        if !truth_of(cond, seen, scan) {
+        if !truth_of(cond, &SeenAt { seen, scan }) {
             return false;
         }
     }
@@ -45,7 +46,7 @@ fn is_true_from(cond: &Cond, seen: &Seen, from: usize, to: usize) -> bool
 
 /// Whether a condition was true from a scan on at all scans up to this one, and that is at least the hold ago.
 fn was_held_from(cond: &Cond, period: i64, hold: i64, seen: &Seen, from: usize, scan: usize) -> bool
-    requires can { CanCond seen.now cond.now }
+    requires safe { (t : ℕ) → IsSafeCond (view_at seen.now t) cond.now }
     requires period { IsPeriod period }
     requires past { from ≤ scan }
     requires last { scan + 1 < 18446744073709551616 }
@@ -57,7 +58,7 @@ fn was_held_from(cond: &Cond, period: i64, hold: i64, seen: &Seen, from: usize, 
 
 /// Whether it was so from some scan on.
 fn was_held(cond: &Cond, period: i64, hold: i64, seen: &Seen, scan: usize) -> bool
-    requires can { CanCond seen.now cond.now }
+    requires safe { (t : ℕ) → IsSafeCond (view_at seen.now t) cond.now }
     requires period { IsPeriod period }
     requires last { scan + 1 < 18446744073709551616 }
     ensures { result ≡ held 0 (λ j. pos (scan - j) *ℤ period) hold (λ j. truth (view_at seen.now j) cond.now) scan }
@@ -72,12 +73,16 @@ fn was_held(cond: &Cond, period: i64, hold: i64, seen: &Seen, scan: usize) -> bo
 
 /// Whether the last scan at which a term was at or past a bound had it at the upper one; the start where there is none.
 fn was_met(term: &Term, lo: i64, hi: i64, start: bool, seen: &Seen, scan: usize) -> bool
-    requires can { CanTerm seen.now term.now }
+    requires safe { (t : ℕ) → IsSafe (view_at seen.now t) term.now }
     requires last { scan + 1 < 18446744073709551616 }
     ensures { result ≡ hyst 0 lo hi start (λ j. value (view_at seen.now j) term.now) scan }
 {
     for back in 0..scan + 1 {
-        let number = value_of(term, seen, scan - back);
+        let at = SeenAt {
+            seen,
+            scan: scan - back,
+        };
+        let number = value_of(term, &at);
         if number >= hi {
             return true;
         }
@@ -90,7 +95,7 @@ fn was_met(term: &Term, lo: i64, hi: i64, start: bool, seen: &Seen, scan: usize)
 
 /// The truth of a memory at a scan, from the truths of those that it reads.
 pub(crate) fn is_recalled(memory: &Memory, period: i64, seen: &Seen, scan: usize) -> bool
-    requires can { CanMemory seen.now memory.now }
+    requires safe { (t : ℕ) → IsSafeMemory (view_at seen.now t) memory.now }
     requires period { IsPeriod period }
     requires last { scan + 1 < 18446744073709551616 }
     ensures { result ≡ recalled period seen.now memory.now scan }
@@ -113,7 +118,7 @@ fn recalled_row(
     seen: &Seen,
     scan: usize,
 ) -> Result<List<bool>, NoMemory>
-    requires can { CanMemories seen.now tables.now.memories }
+    requires safe { (t : ℕ) → AreSafeMemories (view_at seen.now t) tables.now.memories }
     requires last { scan + 1 < 18446744073709551616 }
     ensures { IfOk result (λ row. row ≡ recalled_at tables.now seen.now scan) }
 {
@@ -130,7 +135,7 @@ pub(crate) fn recalled_rows(
     tables: &Tables,
     seen: &Seen,
 ) -> Result<List<List<bool>>, NoMemory>
-    requires { CanMemories seen.now tables.now.memories }
+    requires { (t : ℕ) → AreSafeMemories (view_at seen.now t) tables.now.memories }
     ensures { IfOk result (λ bits. bits ≡ map (recalled_at tables.now seen.now) (range_with_len 0 (length seen.now.rows))) }
 {
     let mut bits = List::new(alloc);
@@ -142,7 +147,7 @@ pub(crate) fn recalled_rows(
 
 /// The same scans, with the truths of the memories after so many rounds.
 fn recall(alloc: Global, tables: &Tables, start: Seen, rounds: usize) -> Result<Seen, NoMemory>
-    requires { CanMemories start tables.now.memories }
+    requires { (t : ℕ) → AreSafeMemories (view_at start t) tables.now.memories }
     ensures { IfOk result (λ seen. seen ≡ after_rounds tables.now rounds start) }
 {
     let mut seen = start;
@@ -155,7 +160,7 @@ fn recall(alloc: Global, tables: &Tables, start: Seen, rounds: usize) -> Result<
 /// The same scans, with the truth of each memory: no chain of variables and memories that read each other is longer than
 /// their number.
 pub(crate) fn recall_all(alloc: Global, tables: &Tables, start: Seen) -> Result<Seen, NoMemory>
-    requires { CanMemories start tables.now.memories }
+    requires { (t : ℕ) → AreSafeMemories (view_at start t) tables.now.memories }
     ensures { IfOk result (λ seen. seen ≡ after_rounds tables.now (length tables.now.vars + length tables.now.memories) start) }
 {
     let half = recall(alloc, tables, start, tables.memories.len())?;

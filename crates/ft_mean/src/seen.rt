@@ -1,6 +1,8 @@
 //! Finished scans as the judge keeps them.
-ghost use Rattle.std.specs.Prelude.{◌≡◌, pos, false, [], slice_index_or};
+ghost use Rattle.std.specs.Prelude.{◌≡◌, pos, negsuc, false, [], slice_index_or};
+ghost use Rattle.ft_mean.specs.Seen.{view_at};
 
+use crate::look::Look;
 use ft_base::List;
 use ft_core::History;
 
@@ -10,6 +12,34 @@ pub(crate) struct Seen {
     pub rows: History,
     pub past: History,
     pub bits: List<List<bool>>,
+}
+
+/// One of its scans.
+#[derive(Clone, Copy)]
+pub(crate) struct SeenAt<'a> {
+    pub seen: &'a Seen,
+    pub scan: usize,
+}
+
+impl<'a> Look for SeenAt<'a> {
+    ghost view = { λ at. view_at at.seen.now at.scan };
+
+    fn now_of(&self, variable: u32) -> i64 {
+        number_at(&self.seen.rows, self.scan, variable as usize)
+    }
+
+    fn before_of(&self, variable: u32) -> i64 {
+        number_at(&self.seen.past, self.scan, variable as usize)
+    }
+
+    /// No table and no memory reads an age.
+    fn age_of(&self, _memory: u32) -> i64 {
+        -1
+    }
+
+    fn memory_of(&self, memory: u32) -> bool {
+        bit_at(&self.seen.bits, self.scan, memory as usize)
+    }
 }
 
 /// The value of a variable at a scan, and 0 where there is none.

@@ -2,6 +2,7 @@
 use Rattle.std.proofs.Common.{◌≡◌, ◌∙◌, sym, ap, subst, refl, ℕ, zero, suc, ◌+◌, ◌<◌, ◌≤◌, ℤ, Bool, true, false, cond, ◌&&◌, List, [], ◌∷◌, ◌++◌, map, length, slice_get, slice_index_or, Option, Some, None, arith, ⊎_elim}
 use Rattle.std.specs.Prelude.{filter, ◌==◌}
 use Rattle.std.specs.List.{list_any, list_all, flat_map, zip, enumerate_from}
+use Rattle.std.specs.Option.{option_map}
 use Rattle.std.specs.Ordering.{int_eq}
 use Rattle.std.proofs.lemmas.Bool.{cond-true, cond-false, cases_Bool, or_left, or_right, eq-eqb, eqb-true, cases_lt}
 use Rattle.std.proofs.lemmas.Bool.Decides.{Decides-int_eq}
@@ -16,7 +17,7 @@ use Rattle.ft_core.specs.Grids.{Cell, cells_for, row_cells, defines}
 use Rattle.ft_mean.specs.Value.{View, value, truth}
 use Rattle.ft_mean.specs.Cells.{cell_holds, holding}
 use Rattle.ft_mean.proofs.Passes.{mapped}
-use Rattle.ft_scan.specs.Found.{IsFound, IsInRow}
+use Rattle.ft_scan.specs.Found.{IsFirstTrue, IsFound, IsInRow, IsTrueAt}
 
 zip_parts : {A B : Type 0} (xs : List A) (ys : List B) (k : ℕ) (p : A × B) → slice_get (zip xs ys) k ≡ Some p → (slice_get xs k ≡ Some p.0) × (slice_get ys k ≡ Some p.1)
 zip_parts [] ys k p e = absurd (none-some p e)
@@ -24,13 +25,13 @@ zip_parts (x ∷ xs) [] k p e = absurd (none-some p e)
 zip_parts (x ∷ xs) (y ∷ ys) zero p e = let is = same_Some (x, y) p e in ((λ i. Some (is i).0), (λ i. Some (is i).1))
 zip_parts (x ∷ xs) (y ∷ ys) (suc k) p e = zip_parts xs ys k p e
 
-zip_there : {A B : Type 0} (xs : List A) (ys : List B) (k : ℕ) (x : A) (y : B) → slice_get xs k ≡ Some x → slice_get ys k ≡ Some y → slice_get (zip xs ys) k ≡ Some (x, y)
+pub zip_there : {A B : Type 0} (xs : List A) (ys : List B) (k : ℕ) (x : A) (y : B) → slice_get xs k ≡ Some x → slice_get ys k ≡ Some y → slice_get (zip xs ys) k ≡ Some (x, y)
 zip_there [] ys k x y e f = absurd (none-some x e)
 zip_there (a ∷ xs) [] k x y e f = absurd (none-some y f)
 zip_there (a ∷ xs) (b ∷ ys) zero x y e f = let i = same_Some a x e in let j = same_Some b y f in λ k. Some (i k, j k)
 zip_there (a ∷ xs) (b ∷ ys) (suc k) x y e f = zip_there xs ys k x y e f
 
-mapped_there : {A B : Type 0} (f : A → B) (xs : List A) (k : ℕ) (x : A) → slice_get xs k ≡ Some x → slice_get (map f xs) k ≡ Some (f x)
+pub mapped_there : {A B : Type 0} (f : A → B) (xs : List A) (k : ℕ) (x : A) → slice_get xs k ≡ Some x → slice_get (map f xs) k ≡ Some (f x)
 mapped_there f [] k x e = absurd (none-some x e)
 mapped_there f (y ∷ xs) zero x e = ap (λ z. Some (f z)) (same_Some y x e)
 mapped_there f (y ∷ xs) (suc k) x e = mapped_there f xs k x e
@@ -227,16 +228,23 @@ module _ (V : View) (x : ℕ) where
       (zip_there targets terms i t (slice_index_or terms i []) there (inside terms i in_row.0 in_row.2 in_row.4))
       (λ m. bare_gives m t columns (slice_index_or terms i []) z mine in_row)
 
--- the first condition that holds has no term, so no condition from it on has one
-pub no_term : (V : View) (conds : List Cond) (terms : List Term) (at : ℕ) → ((j : ℕ) (c : Cond) → j < at → slice_get conds j ≡ Some c → truth V c ≡ false)
-    → slice_get terms at ≡ None → IsInRow V conds terms None
-no_term V conds terms at before none j c e there term = ⊎_elim
-    (λ less. before j c less there)
-    (λ past. absurd (none-some e (sym (slice_get_past terms j (long past)) ∙ term)))
-    (cases_lt j at)
+-- a condition that is not true is false
+pub fails : (V : View) (conds : List Cond) (j : ℕ) → (IsTrueAt V conds j → ⊥) → (c : Cond) → slice_get conds j ≡ Some c → truth V c ≡ false
+fails V conds j none c at = ⊎_elim (λ holds. absurd (none (c, at, holds))) (λ shut. shut) (cases_Bool (truth V c))
+
+-- a row has the term of its first condition that holds, or else no condition from it on has one
+pub in_row_at : (V : View) (conds : List Cond) (terms : List Term) (at : ℕ) → IsFirstTrue V conds at → IsInRow V conds terms (option_map (value V) (slice_get terms at))
+in_row_at V conds terms at first = of (slice_get terms at) refl
   where
-    long : at ≤ j → length terms ≤ j
-    long past = ⊎_elim (λ at_it. absurd (none-some at_it.0 (sym none ∙ at_it.2))) (λ out. omega (arith, out.0, past)) (slice_get_cases terms at).1
+    of : (o : Option Term) → slice_get terms at ≡ o → IsInRow V conds terms (option_map (value V) o)
+    of (Some e) there = (at, first.0.0, e, first.0.1, there, first.0.2, refl)
+    of None none = λ j c e cond_at term. ⊎_elim
+        (λ less. fails V conds j (first.1 j less) c cond_at)
+        (λ past. absurd (none-some e (sym (slice_get_past terms j (long none past)) ∙ term)))
+        (cases_lt j at)
+      where
+        long : {j : ℕ} → slice_get terms at ≡ None → at ≤ j → length terms ≤ j
+        long none past = ⊎_elim (λ at_it. absurd (none-some at_it.0 (sym none ∙ at_it.2))) (λ out. omega (arith, out.0, past)) (slice_get_cases terms at).1
 
 -- what holds of each number below and of the next one holds of each below that
 pub one_more : (P : ℕ → Type 0) (k : ℕ) → ((i : ℕ) → i < k → P i) → P k → (i : ℕ) → i < k + 1 → P i

@@ -2,7 +2,6 @@
 use Rattle.std.proofs.Common.{◌≡◌, ◌∙◌, sym, subst, refl, ℕ, zero, suc, ◌<◌, ℤ, true, List, [], ◌∷◌, length, slice_index_or, arith}
 use Rattle.std.specs.Prelude.{IsTrue}
 use Rattle.std.specs.List.{flat_map}
-use Rattle.std.proofs.lemmas.Option.{slice_get_within}
 use Rattle.ft_base.specs.Interval.{IsWithin}
 use Rattle.ft_core.specs.declared.tables.Tables.{Tables}
 use Rattle.ft_core.specs.declared.tables.Var.{Var}
@@ -54,7 +53,7 @@ module _ (S : Tables) (proper : AllProper S) (section : Section) (kinds : Kinds)
   pub has_values : HasValues S section V
   has_values x v is = let one = answer_at x v is in (one.z, same_value x v is one.z ∙ one.is)
 
-  pub image_maps : (image : List ℤ) → length image ≡ count_of (defined_kinds section) S.vars → AreValues S section V (length S.vars) image
+  pub image_maps : (image : List ℤ) → length image ≡ count_of (defined_kinds section) S.vars → AreValues S section V image
       → Maps S section kinds (row ∷ []) (image ∷ [])
   image_maps image width values = record {
     lengths = refl;
@@ -73,4 +72,4 @@ module _ (S : Tables) (proper : AllProper S) (section : Section) (kinds : Kinds)
 
       holds : (x : ℕ) (v : Var) → IsVar S (defined_kinds section) x v → IsTrue (defined S section W x (reading_of S (defined_kinds section) (image ∷ []) 0 x))
       holds x v is = subst (λ z. IsTrue (defined S section W x z)) (sym (reading_at S (defined_kinds section) (image ∷ []) 0 x v is))
-          (sym (same_value x v is _) ∙ values x v (slice_get_within S.vars x v is.0) is)
+          (sym (same_value x v is _) ∙ values x v is)

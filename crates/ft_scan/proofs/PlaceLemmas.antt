@@ -1,16 +1,16 @@
--- A row of the variables of some kinds, filled in order of declaration.
-use Rattle.std.proofs.Common.{◌≡◌, ◌∙◌, sym, ap, subst, refl, ℕ, zero, suc, ◌+◌, ◌<◌, ℤ, pos, Bool, true, false, cond, List, [], ◌∷◌, length, slice_get, slice_set, slice_index_or, Some, arith, ⊎_elim, true≢false}
-use Rattle.std.specs.Prelude.{IsTrue}
-use Rattle.std.proofs.lemmas.Bool.{cases_lt}
-use Rattle.std.proofs.lemmas.Option.{none-some, same_Some}
+-- A variable's place in a row of the variables of some kinds.
+use Rattle.std.proofs.Common.{◌≡◌, ◌∙◌, sym, ap, subst, refl, ℕ, zero, suc, ◌<◌, ℤ, pos, Bool, true, false, cond, List, [], ◌∷◌, length, slice_get, slice_index_or, Some, None, arith, ⊎_elim, true≢false}
+use Rattle.std.specs.Prelude.{IsTrue, nat_lt}
+use Rattle.std.proofs.lemmas.Bool.{cases_lt, ltb-true, cond-true, cond-false}
+use Rattle.std.proofs.lemmas.Option.{none-some, same_Some, slice_get_read}
 use Rattle.ft_core.specs.declared.tables.Tables.{Tables}
 use Rattle.ft_core.specs.declared.tables.Var.{Var}
-use Rattle.ft_core.specs.declared.tables.Section.{Section}
-use Rattle.ft_core.specs.Kinds.{Kinds, count_of, place_of, defined_kinds}
-use Rattle.ft_mean.specs.Cells.{defined}
-use Rattle.ft_mean.specs.Value.{View}
-use Rattle.ft_mean.proofs.Rows.{place-below}
-use Rattle.ft_scan.specs.Rows.{AreValues}
+use Rattle.ft_core.specs.declared.tables.VarKind.{VarKind}
+use Rattle.ft_core.specs.declared.tables.VarKind.TheVariants as kind
+use Rattle.ft_core.specs.Kinds.{Kinds, place_of, of_kind, is_of}
+use Rattle.ft_core.specs.contracts.tables.VarKind.{the_type}
+use Rattle.ft_mean.specs.Reading.{IsVar, init_of, reading_of}
+use denote.Enum.Bare.{sameb}
 
 module _ (kinds : Kinds) where
   -- one more variable before a place
@@ -43,36 +43,54 @@ module _ (kinds : Kinds) where
         | false ↦ below
       ]
 
-pub set_same : (xs : List ℤ) (k : ℕ) (z : ℤ) → k < length xs → slice_index_or (slice_set xs k z) k (pos 0) ≡ z
-set_same [] k z l = absurd (omega (arith, l))
-set_same (x ∷ xs) zero z l = refl
-set_same (x ∷ xs) (suc k) z l = set_same xs k z (omega (arith, l))
+  -- two of them have two places
+  pub other_place : (vars : List Var) (x y : ℕ) (v w : Var) → slice_get vars x ≡ Some v → slice_get vars y ≡ Some w → IsTrue (kinds v.kind) → IsTrue (kinds w.kind)
+      → (x ≡ y → ⊥) → place_of kinds vars x ≡ place_of kinds vars y → ⊥
+  other_place vars x y v w there at k l other same = ⊎_elim
+      (λ less. let below = lower_place vars x y v less there k in omega (arith, below, same))
+      (λ least. ⊎_elim
+      (λ more. let below = lower_place vars y x w more at l in omega (arith, below, same))
+      (λ most. other (omega (arith, least, most)))
+      (cases_lt y x))
+      (cases_lt x y)
 
-pub set_other : (xs : List ℤ) (k j : ℕ) (z : ℤ) → j < k → slice_index_or (slice_set xs k z) j (pos 0) ≡ slice_index_or xs j (pos 0)
-set_other [] k j z l = refl
-set_other (x ∷ xs) zero j z l = absurd (omega (arith, l))
-set_other (x ∷ xs) (suc k) zero z l = refl
-set_other (x ∷ xs) (suc k) (suc j) z l = set_other xs k j z (omega (arith, l))
+-- a kind that is this one alone
+pub same_kind : (k l : VarKind) → of_kind k l ≡ true → l ≡ k
+same_kind kind.Mon kind.Mon e = refl
+same_kind kind.Con kind.Con e = refl
+same_kind kind.Input kind.Input e = refl
+same_kind kind.Output kind.Output e = refl
+same_kind kind.ReqInner kind.ReqInner e = refl
+same_kind kind.SofInner kind.SofInner e = refl
+same_kind k l e = absurd (true≢false (sym e))
 
-module _ (S : Tables) (section : Section) (V : View) (x : ℕ) (v : Var) (there : slice_get S.vars x ≡ Some v) (image : List ℤ) where
-  -- a variable that the section doesn't define changes nothing
-  pub passed_over : defined_kinds section v.kind ≡ false → AreValues S section V x image → AreValues S section V (x + 1) image
-  passed_over other values y w below is = ⊎_elim
-      (λ less. values y w less is)
-      (λ past. let same : x ≡ y = omega (arith, below, past) in
-      absurd (true≢false (sym is.1 ∙ ap (λ (u : Var). defined_kinds section u.kind) (same_Some w v (sym is.0 ∙ ap (slice_get S.vars) (sym same) ∙ there)) ∙ other)))
-      (cases_lt y x)
+-- the place that a variable is said to have among those of its kind is its own
+pub own_place : (S : Tables) (kinds : Kinds) (k : VarKind) → kinds ≡ of_kind k → (x : ℕ) (v : Var) → IsVar S kinds x v → v.place ≡ place_of kinds S.vars x
+own_place S kinds k one x v is = S.sound.places x v is.0
+    ∙ ap (λ (l : Kinds). place_of l S.vars x) (ap of_kind (same_kind k v.kind (subst (λ (l : Kinds). IsTrue (l v.kind)) one is.1)) ∙ sym one)
 
-  -- one that it defines, with its value put at its place
-  pub put_in : (z : ℤ) → IsTrue (defined_kinds section v.kind) → length image ≡ count_of (defined_kinds section) S.vars → IsTrue (defined S section V x z)
-      → AreValues S section V x image → AreValues S section V (x + 1) (slice_set image (place_of (defined_kinds section) S.vars x) z)
-  put_in z kind room value values y w below is = ⊎_elim
-      (λ less. subst (λ z. IsTrue (defined S section V y z))
-      (sym (set_other image (place_of (defined_kinds section) S.vars x) (place_of (defined_kinds section) S.vars y) z (lower_place (defined_kinds section) S.vars y x w less is.0 is.1)))
-      (values y w less is))
-      (λ past. let same : x ≡ y = omega (arith, below, past) in
-      subst (λ y. IsTrue (defined S section V y (slice_index_or (slice_set image (place_of (defined_kinds section) S.vars x) z) (place_of (defined_kinds section) S.vars y) (pos 0)))) same
-      (subst (λ z. IsTrue (defined S section V x z))
-      (sym (set_same image (place_of (defined_kinds section) S.vars x) z (subst (λ n. place_of (defined_kinds section) S.vars x < n) (sym room) (place-below (defined_kinds section) S.vars x v there kind))))
-      value))
-      (cases_lt y x)
+-- what compares kinds tells whether one is this one alone
+pub kinds_compare : (k l : VarKind) → sameb the_type l k ≡ of_kind k l
+kinds_compare kind.Mon kind.Mon = refl
+kinds_compare kind.Con kind.Con = refl
+kinds_compare kind.Input kind.Input = refl
+kinds_compare kind.Output kind.Output = refl
+kinds_compare kind.ReqInner kind.ReqInner = refl
+kinds_compare kind.SofInner kind.SofInner = refl
+kinds_compare k l = refl
+
+-- a row of the variables of a kind tells the value at its place of one of that kind, and the `init` of any other
+module _ (S : Tables) (k : VarKind) (row : List ℤ) (x : ℕ) where
+  pub told_value : (v : Var) → slice_get S.vars x ≡ Some v → of_kind k v.kind ≡ true → slice_index_or row v.place (pos 0) ≡ reading_of S (of_kind k) (row ∷ []) 0 x
+  told_value v there same = ap (λ p. slice_index_or row p (pos 0)) (own_place S (of_kind k) k refl x v (there, same))
+      ∙ sym (cond-true (is_of S.vars (of_kind k) x) (slice_index_or row (place_of (of_kind k) S.vars x) (pos 0)) (init_of S x)
+      (ap (λ o. elim o as (λ z. Bool) [ None ↦ false | Some u ↦ of_kind k u.kind ]) there ∙ same))
+
+  pub told_init : (v : Var) → slice_get S.vars x ≡ Some v → of_kind k v.kind ≡ false → v.init ≡ reading_of S (of_kind k) (row ∷ []) 0 x
+  told_init v there other = sym (cond-false (is_of S.vars (of_kind k) x) (slice_index_or row (place_of (of_kind k) S.vars x) (pos 0)) (init_of S x)
+      (ap (λ o. elim o as (λ z. Bool) [ None ↦ false | Some u ↦ of_kind k u.kind ]) there ∙ other)
+      ∙ ap (λ o. elim o as (λ z. ℤ) [ None ↦ pos 0 | Some u ↦ u.init ]) there)
+
+-- what is got of a list at a place stands there
+pub got : {A : Type 0} (xs ys : List A) (i : ℕ) (x : A) → ys ≡ xs → true ≡ nat_lt i (length ys) → x ≡ slice_index_or ys i x → slice_get xs i ≡ Some x
+got xs ys i x same inside is = subst (λ zs. slice_get zs i ≡ Some x) same (slice_get_read ys (length ys) i x refl (ltb-true i (length ys) (sym inside)) is)

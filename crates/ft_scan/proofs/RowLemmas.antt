@@ -25,7 +25,7 @@ use Rattle.ft_mean.proofs.Passes.{from_one}
 use Rattle.ft_mean.proofs.Traces.{reading_range}
 use Rattle.ft_mean.proofs.WellFormed.{opened}
 use Rattle.ft_scan.specs.Rows.{row_view}
-use Rattle.ft_scan.specs.Safe.{KeepsSizes, AreSafeConds}
+use Rattle.ft_mean.specs.Safe.{KeepsSizes, AreSafeConds}
 
 within_size : (range : ℤ × ℤ) (z : ℤ) → IsWithin range z → unsigned_abs z ≤ max 1 (max (unsigned_abs range.0) (unsigned_abs range.1))
 within_size range z h = grind (arith, ints, h.0, h.1)
@@ -50,7 +50,7 @@ no_init S x e = ap (λ o. elim o as (λ z. ℤ) [ None ↦ pos 0 | Some u ↦ u.
 init_range : (S : Tables) (x : ℕ) (v : Var) → slice_get S.vars x ≡ Some v → IsWithin v.range (init_of S x)
 init_range S x v e = subst (λ z. IsWithin v.range z) (sym (ap (λ o. elim o as (λ z. ℤ) [ None ↦ pos 0 | Some u ↦ u.init ]) e)) (S.sound.inits x v e)
 
-no_reading : (S : Tables) (kinds : Kinds) (row : List ℤ) (x : ℕ) → slice_get S.vars x ≡ None → reading_of S kinds (row ∷ []) 0 x ≡ pos 0
+pub no_reading : (S : Tables) (kinds : Kinds) (row : List ℤ) (x : ℕ) → slice_get S.vars x ≡ None → reading_of S kinds (row ∷ []) 0 x ≡ pos 0
 no_reading S kinds row x e =
     cond-false (is_of S.vars kinds x) _ (init_of S x) (ap (λ o. elim o as (λ z. Bool) [ None ↦ false | Some v ↦ kinds v.kind ]) e) ∙ no_init S x e
 

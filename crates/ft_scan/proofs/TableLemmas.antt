@@ -8,13 +8,13 @@ use Rattle.std.proofs.lemmas.Option.{none-some, same_Some}
 use Rattle.ft_core.specs.declared.tables.Tables.{Tables}
 use Rattle.ft_core.specs.declared.tables.Table.{Table}
 use Rattle.ft_core.specs.declared.tables.Section.{Section}
-use Rattle.ft_core.specs.Grids.{cells_for, defines, is_section, is_for}
+use Rattle.ft_core.specs.Grids.{cells_for, is_for, is_shaped}
 use Rattle.ft_core.specs.Size.{is_sized_grid}
 use Rattle.ft_mean.specs.Value.{View, value}
 use Rattle.ft_mean.specs.Cells.{holding, cells_of, defined}
 use Rattle.ft_mean.proofs.CellLemmas.{cells_of-is}
-use Rattle.ft_scan.specs.Found.{IsFound, IsSafeGrid, IsTableFor}
-use Rattle.ft_scan.specs.Safe.{KeepsSizes}
+use Rattle.ft_scan.specs.Found.{IsFound, IsTableFor}
+use Rattle.ft_mean.specs.Safe.{KeepsSizes, IsSafeGrid}
 
 pub all_at : {A : Type 0} (test : A → Bool) (xs : List A) (k : ℕ) (x : A) → list_all test xs ≡ true → slice_get xs k ≡ Some x → test x ≡ true
 all_at test [] k x h e = absurd (none-some x e)
@@ -24,21 +24,22 @@ all_at test (y ∷ xs) (suc k) x h e = all_at test xs k x (and_parts (test y) (l
 pub for_it : (tables : List Table) (section : Section) (x place : ℕ) → IsTableFor tables section x place → (t : Table) → slice_get tables place ≡ Some t → IsTrue (is_for section x t)
 for_it tables section x place at t there = subst (λ u. IsTrue (is_for section x u)) (same_Some at.table t (sym at.there ∙ there)) at.is_for_it
 
-module _ (S : Tables) (section : Section) (x place : ℕ) (table : Table) (there : slice_get S.tables place ≡ Some table) (mine : IsTrue (is_for section x table)) where
-  cells_are : cells_of S section x ≡ cells_for x table.grid
-  cells_are = cells_of-is S section x place table there mine
-      (λ l a other its. S.sound.one_table section x l place a table other there its mine)
+module _ (S : Tables) (place : ℕ) (table : Table) (there : slice_get S.tables place ≡ Some table) where
+  pub grid_shaped : IsTrue (is_shaped table.grid)
+  grid_shaped = all_at (λ table. is_shaped table.grid) S.tables place table S.sound.shapes there
 
-  pub it_defines : IsTrue (defines table.grid x)
-  it_defines = (and_parts (is_section table.section section) (defines table.grid x) mine).1
-
-  pub safe_grid : (V : View) → KeepsSizes S.vars S.memories V → IsSafeGrid V table.grid
-  safe_grid V keeps = record {
+  pub grid_safe : (V : View) → KeepsSizes S.vars S.memories V → IsSafeGrid V table.grid
+  grid_safe V keeps = record {
     vars = S.vars;
     memories = S.memories;
     keeps = keeps;
     small = all_at (λ table. is_sized_grid S.vars S.memories table.grid) S.tables place table S.sound.sized_tables there;
   }
+
+module _ (S : Tables) (section : Section) (x place : ℕ) (table : Table) (there : slice_get S.tables place ≡ Some table) (mine : IsTrue (is_for section x table)) where
+  cells_are : cells_of S section x ≡ cells_for x table.grid
+  cells_are = cells_of-is S section x place table there mine
+      (λ l a other its. S.sound.one_table section x l place a table other there its mine)
 
   pub found_defined : (V : View) (z : ℤ) → IsFound V (cells_for x table.grid) (Some z) → IsTrue (defined S section V x z)
   found_defined V z found = ap (λ cs. list_any (λ cell. int_eq z (value V cell.term)) (holding V cs)) cells_are ∙ found

@@ -1,17 +1,16 @@
 -- What is found among the cells of a table.
-use Rattle.std.specs.Prelude.{ℕ, ◌≡◌, ℤ, Bool, List, [], slice_get, Option, Some, None, IsTrue, IsFalse}
+use Rattle.std.specs.Prelude.{ℕ, ◌≡◌, ◌<◌, ℤ, Bool, List, [], slice_get, slice_index_or, Option, Some, None, IsTrue, IsFalse}
 use Rattle.std.specs.List.{list_any}
 use Rattle.std.specs.Ordering.{int_eq}
 use Rattle.ft_core.specs.declared.term.Cond.{Cond}
 use Rattle.ft_core.specs.declared.term.Term.{Term}
 use Rattle.ft_core.specs.declared.tables.Grid.{Grid}
+use Rattle.ft_core.specs.declared.tables.Grid.TheVariants.{Vector}
 use Rattle.ft_core.specs.declared.tables.Table.{Table}
 use Rattle.ft_core.specs.declared.tables.Section.{Section}
 use Rattle.ft_core.specs.Grids.{Cell, is_for}
-use Rattle.ft_core.specs.Size.{is_sized_grid}
 use Rattle.ft_mean.specs.Value.{View, value, truth}
 use Rattle.ft_mean.specs.Cells.{holding}
-use Rattle.ft_scan.specs.Safe.{IsSafeBy}
 
 -- in a row of cells with these conditions and terms: the value of the term of one whose condition holds, or none holds
 abbrev pub IsInRow : View → List Cond → List Term → Option ℤ → Type 0
@@ -33,8 +32,23 @@ abbrev pub IsFound : View → List Cell → Option ℤ → Type 0
 IsFound V cells None = holding V cells ≡ []
 IsFound V cells (Some z) = IsTrue (list_any (λ cell. int_eq z (value V cell.term)) (holding V cells))
 
-abbrev pub IsSafeGrid : View → Grid → Type 0
-IsSafeGrid V grid = IsSafeBy V (λ vars memories. is_sized_grid vars memories grid)
+-- the condition at this place holds
+abbrev pub IsTrueAt : View → List Cond → ℕ → Type 0
+IsTrueAt V conds at = (c : Cond) × (slice_get conds at ≡ Some c) × IsTrue (truth V c)
+
+-- and none before it does
+abbrev pub IsFirstTrue : View → List Cond → ℕ → Type 0
+IsFirstTrue V conds at = IsTrueAt V conds at × ((j : ℕ) → j < at → IsTrueAt V conds j → ⊥)
+
+-- the column of a vector table at this place holds
+abbrev pub IsOpenColumn : View → Grid → ℕ → Type 0
+IsOpenColumn V (Vector columns targets terms) at = IsTrueAt V columns at
+IsOpenColumn V _ at = ⊥
+
+-- the term in this row and column of a vector table
+abbrev pub IsEntry : Grid → (row column : ℕ) → Term → Type 0
+IsEntry (Vector columns targets terms) row column e = slice_get (slice_index_or terms row []) column ≡ Some e
+IsEntry _ row column e = ⊥
 
 -- the table at this place is of the section and defines variable x
 pub record IsTableFor (tables : List Table) (section : Section) (x at : ℕ) : Type 0 where

@@ -15,7 +15,7 @@ use Rattle.ft_core.specs.declared.term.Cond.TheVariants.{Yes, Compare}
 
 -- a variable without a name, at 0 before scan 0
 abbrev pub variable : VarKind → ℤ × ℤ → Var
-variable kind range = record { name = []; kind = kind; range = range; members = []; init = pos 0 }
+variable kind range = record { name = []; kind = kind; place = 0; range = range; members = []; init = pos 0 }
 
 abbrev pub vars : List Var
 vars = variable Mon (negsuc 3, pos 3) ∷ variable Input (negsuc 0, pos 0) ∷ []

@@ -1,20 +1,12 @@
 -- What a row of the variables of one kind tells, with the row before it.
-use Rattle.std.specs.Prelude.{ℕ, ◌<◌, ℤ, pos, negsuc, Bool, false, IsTrue, List, [], ◌∷◌, slice_index_or, if◌then◌else◌}
+use Rattle.std.specs.Prelude.{ℕ, ℤ, pos, negsuc, Bool, false, IsTrue, List, [], ◌∷◌, slice_index_or, if◌then◌else◌}
 use Rattle.ft_core.specs.declared.tables.Tables.{Tables}
 use Rattle.ft_core.specs.declared.tables.Var.{Var}
 use Rattle.ft_core.specs.declared.tables.Section.{Section}
-use Rattle.ft_core.specs.Kinds.{Kinds, monitored, controlled, inputs, outputs, defined_kinds, place_of}
+use Rattle.ft_core.specs.Kinds.{Kinds, defined_kinds, place_of}
 use Rattle.ft_mean.specs.Cells.{defined}
 use Rattle.ft_mean.specs.Reading.{IsVar, init_of, reading_of}
 use Rattle.ft_mean.specs.Value.{View}
-use Rattle.ft_scan.specs.declared.rows.Class.{Class}
-use Rattle.ft_scan.specs.declared.rows.Class.TheVariants.{Monitored, Controlled, Inputs, Outputs}
-
-abbrev pub kinds_of : Class → Kinds
-kinds_of Monitored = monitored
-kinds_of Controlled = controlled
-kinds_of Inputs = inputs
-kinds_of Outputs = outputs
 
 -- what every name stands for at a row, where the one before it is there or not; a row tells of no memory
 abbrev pub row_view : Tables → Kinds → (row earlier : List ℤ) → (begins : Bool) → View
@@ -29,7 +21,10 @@ row_view S kinds row earlier begins = record {
 abbrev pub HasValues : Tables → Section → View → Type 0
 HasValues S section V = (x : ℕ) (v : Var) → IsVar S (defined_kinds section) x v → (z : ℤ) × IsTrue (defined S section V x z)
 
--- the row has the values of the first n variables, as far as the section defines them
-abbrev pub AreValues : Tables → Section → View → ℕ → List ℤ → Type 0
-AreValues S section V n row = (x : ℕ) (v : Var) → x < n → IsVar S (defined_kinds section) x v
-    → IsTrue (defined S section V x (slice_index_or row (place_of (defined_kinds section) S.vars x) (pos 0)))
+-- what a row of the variables that the section defines has for one of them
+abbrev pub row_value : Tables → Section → List ℤ → ℕ → ℤ
+row_value S section row x = slice_index_or row (place_of (defined_kinds section) S.vars x) (pos 0)
+
+-- the row has the value of each variable that the section defines
+abbrev pub AreValues : Tables → Section → View → List ℤ → Type 0
+AreValues S section V row = (x : ℕ) (v : Var) → IsVar S (defined_kinds section) x v → IsTrue (defined S section V x (row_value S section row x))

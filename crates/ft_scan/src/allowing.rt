@@ -4,14 +4,13 @@ ghost use Rattle.std.specs.Option.{option_map};
 ghost use Rattle.ft_core.specs.Kinds.{monitored};
 ghost use Rattle.ft_mean.specs.Allowed.{nat_at};
 ghost use Rattle.ft_mean.specs.Reading.{IsListOf, reading_of};
+ghost use Rattle.ft_mean.specs.Safe.{AreSafeConds};
 ghost use Rattle.ft_mean.specs.Value.{truth};
 ghost use Rattle.ft_scan.specs.Allowing.{nat_after};
-ghost use Rattle.ft_scan.specs.Safe.{AreSafeConds};
 
-use crate::evaluating::truth_of;
-use crate::look::Look;
-use crate::rows::{Class, Rows};
-use ft_core::{Cond, Tables};
+use crate::rows::Rows;
+use ft_core::{Cond, Tables, VarKind};
+use ft_mean::{Look, truth_of};
 
 /// Whether every condition holds.
 fn all_hold<L: Look>(conds: &[Cond], look: &L) -> bool
@@ -34,7 +33,7 @@ fn may_begin(tables: &Tables, now: &[i64]) -> bool
 {
     let rows = Rows {
         tables,
-        class: Class::Monitored,
+        kind: VarKind::Mon,
         row: now,
         earlier: &[],
         begins: true,
@@ -51,7 +50,7 @@ fn may_follow(tables: &Tables, earlier: &[i64], now: &[i64]) -> bool
 {
     let rows = Rows {
         tables,
-        class: Class::Monitored,
+        kind: VarKind::Mon,
         row: now,
         earlier,
         begins: false,

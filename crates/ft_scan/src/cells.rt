@@ -1,15 +1,28 @@
-ghost use Rattle.std.specs.Prelude.{◌≡◌, ◌==◌, ℕ, [], slice_get, slice_index_or, IsTrue};
+ghost use Rattle.std.specs.Prelude.{◌≡◌, ◌==◌, ℕ, [], slice_get, slice_index_or, IsTrue, MatchOption};
 ghost use Rattle.std.specs.Option.{option_map};
 ghost use Rattle.ft_core.specs.declared.tables.Grid.TheVariants.{Normal, Inverted, Vector};
+ghost use Rattle.ft_core.specs.declared.term.Term.{Term};
 ghost use Rattle.ft_core.specs.Grids.{cells_for, defines};
-ghost use Rattle.ft_mean.specs.Value.{value, truth};
-ghost use Rattle.ft_scan.specs.Found.{IsFound, IsInHeadedRow, IsInRow, IsInRowFor, IsSafeGrid};
-ghost use Rattle.ft_scan.specs.Safe.{IsSafeCond, AreSafe, AreSafeConds, AreSafeCondRows, AreSafeRows};
+ghost use Rattle.ft_mean.specs.Safe.{IsSafeCond, IsSafeGrid, AreSafe, AreSafeConds, AreSafeCondRows, AreSafeRows};
+ghost use Rattle.ft_mean.specs.Value.{value};
+ghost use Rattle.ft_scan.specs.Found.{IsFirstTrue, IsTrueAt, IsEntry, IsFound, IsInHeadedRow, IsInRow, IsInRowFor, IsOpenColumn};
 
-use crate::evaluating::{truth_of, value_of};
-use crate::look::Look;
 use ft_base::List;
 use ft_core::{Cond, Grid, Term};
+use ft_mean::{Look, truth_of, value_of};
+
+/// The place of the first condition that holds.
+fn first_that_holds<L: Look>(conds: &[Cond], look: &L) -> Option<usize>
+    requires { AreSafeConds (L.view look.now) conds.now }
+    ensures { MatchOption result ((at : ℕ) → IsTrueAt (L.view look.now) conds.now at → ⊥) (IsFirstTrue (L.view look.now) conds.now) }
+{
+    for (at, cond) in conds.iter().enumerate() {
+        if truth_of(cond, look) {
+            return Some(at);
+        }
+    }
+    None
+}
 
 /// The value of the term at a place, where there is one.
 fn term_at<L: Look>(terms: &[Term], at: usize, look: &L) -> Option<i64>
@@ -28,12 +41,10 @@ fn in_row<L: Look>(conds: &[Cond], terms: &[Term], look: &L) -> Option<i64>
     requires terms { AreSafe (L.view look.now) terms.now }
     ensures { IsInRow (L.view look.now) conds.now terms.now result }
 {
-    for (at, cond) in conds.iter().enumerate() {
-        if truth_of(cond, look) {
-            return term_at(terms, at, look);
-        }
+    match first_that_holds(conds, look) {
+        Some(at) => term_at(terms, at, look),
+        None => None,
     }
-    None
 }
 
 /// The same in a row of a table, by its place.
@@ -206,5 +217,31 @@ pub(crate) fn value_in<L: Look>(grid: &Grid, variable: usize, look: &L) -> Optio
             variable,
             look,
         ),
+    }
+}
+
+/// The first column of a vector table that holds.
+pub(crate) fn open_column<L: Look>(grid: &Grid, look: &L) -> Option<usize>
+    requires { IsSafeGrid (L.view look.now) grid.now }
+    ensures { MatchOption result ((at : ℕ) → IsOpenColumn (L.view look.now) grid.now at → ⊥) (IsOpenColumn (L.view look.now) grid.now) }
+{
+    match grid {
+        Grid::Vector { columns, .. } => first_that_holds(columns.as_slice(), look),
+        _ => None,
+    }
+}
+
+/// The value of the term in a row and a column of a vector table.
+pub(crate) fn entry_value<L: Look>(grid: &Grid, row: usize, column: usize, look: &L) -> i64
+    requires safe { IsSafeGrid (L.view look.now) grid.now }
+    requires entry { (e : Term) × IsEntry grid.now row column e }
+    ensures { (e : Term) → IsEntry grid.now row column e → result ≡ value (L.view look.now) e }
+{
+    match grid {
+        Grid::Vector { terms, .. } => {
+            let entries = terms.get(row);
+            value_of(entries.get(column), look)
+        }
+        _ => unreachable!(),
     }
 }

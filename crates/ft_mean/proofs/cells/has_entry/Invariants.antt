@@ -1,9 +1,8 @@
 use Rattle.std.proofs.Common.{◌≡◌, false, ◌&&◌, take}
 use Rattle.std.specs.List.{list_any, zip}
 use Rattle.std.specs.Ordering.{int_eq}
-use Rattle.ft_mean.specs.Seen.{view_at}
 use Rattle.ft_mean.specs.Value.{value, truth}
 use Rattle.ft_mean.proofs.cells.has_entry.Given as goal
 
 abbrev pub invariant-loop-at : goal.invariant-loop-at
-invariant-loop-at l = list_any (λ c. truth (view_at l.seen l.scan) c.0 && int_eq l.wanted (value (view_at l.seen l.scan) c.1)) (take l.at (zip l.conds l.terms)) ≡ false
+invariant-loop-at g l = list_any (λ c. truth (g.L.Look.view l.look) c.0 && int_eq l.wanted (value (g.L.Look.view l.look) c.1)) (take l.at (zip l.conds l.terms)) ≡ false

@@ -1,8 +1,8 @@
 use Rattle.std.proofs.Common.{◌≡◌, false, ◌&&◌, take}
 use Rattle.std.specs.List.{list_any}
 use Rattle.ft_core.specs.Grids.{is_section}
-use Rattle.ft_mean.specs.Seen.{view_at, grid_gives}
+use Rattle.ft_mean.specs.Seen.{grid_gives}
 use Rattle.ft_mean.proofs.cells.is_defined.Given as goal
 
 abbrev pub invariant-loop-table : goal.invariant-loop-table
-invariant-loop-table l = list_any (λ t. is_section t.section l.section && grid_gives (view_at l.seen l.scan) l.variable l.wanted t.grid) (take l.table-index l.tables.tables) ≡ false
+invariant-loop-table g l = list_any (λ t. is_section t.section l.section && grid_gives (g.L.Look.view l.look) l.variable l.wanted t.grid) (take l.table-index l.tables.tables) ≡ false

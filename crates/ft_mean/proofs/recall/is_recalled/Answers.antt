@@ -1,8 +1,15 @@
-use Rattle.std.proofs.Common.{◌∙◌, sym, ap, FitsSigned, w64, rules}
+use Rattle.std.proofs.Common.{◌∙◌, sym, ap, subst, FitsSigned, w64, rules}
 use Rattle.std.proofs.lemmas.Int.{to_z-of_z}
 use Rattle.ft_core.specs.declared.tables.Memory.{Memory}
-use Rattle.ft_mean.specs.Seen.{recalled}
+use Rattle.ft_mean.specs.Safe.{IsSafeMemory}
+use Rattle.ft_mean.specs.Seen.{view_at, recalled}
 use Rattle.ft_mean.proofs.recall.is_recalled.Goals as goal
+
+pub was_held-requires-clause-safe : goal.was_held-requires-clause-safe
+was_held-requires-clause-safe c = λ t. subst (λ (m : Memory). IsSafeMemory (view_at c.args.seen.now t) m) c.in-Held.is (c.requires.safe t)
+
+pub was_met-requires-clause-safe : goal.was_met-requires-clause-safe
+was_met-requires-clause-safe c = λ t. subst (λ (m : Memory). IsSafeMemory (view_at c.args.seen.now t) m) c.in-Hyst.is (c.requires.safe t)
 
 pub returns-in-Held : goal.returns-in-Held
 returns-in-Held c =

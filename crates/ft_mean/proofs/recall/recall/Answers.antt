@@ -1,9 +1,8 @@
-use Rattle.ft_mean.proofs.TellLemmas.{can_again}
-use Rattle.ft_mean.proofs.RecallLemmas.{round_next}
+use Rattle.ft_mean.proofs.RecallLemmas.{round_next, safe_again}
 use Rattle.ft_mean.proofs.recall.recall.Goals as goal
 
 pub recalled_rows-requires : goal.recalled_rows-requires
-recalled_rows-requires c = can_again c.requires c.loop-round.invariant.1 c.loop-round.invariant.2
+recalled_rows-requires c = safe_again c.args.start c.loop-round.seen c.requires c.loop-round.invariant.1 c.loop-round.invariant.2
 
 pub loop-round-preserved : goal.loop-round-preserved
 loop-round-preserved c = (

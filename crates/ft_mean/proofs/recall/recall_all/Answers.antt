@@ -1,12 +1,13 @@
-use Rattle.std.proofs.Common.{◌∙◌, sym, ap, subst, ◌+◌}
+use Rattle.std.proofs.Common.{◌∙◌, sym, ap, subst, ℕ, ◌+◌}
 use Rattle.ft_mean.specs.declared.seen.Seen.{Seen}
-use Rattle.ft_mean.specs.Seen.{CanMemories, after_rounds}
-use Rattle.ft_mean.proofs.RecallLemmas.{can_after, rounds_join}
+use Rattle.ft_mean.specs.Safe.{AreSafeMemories}
+use Rattle.ft_mean.specs.Seen.{view_at, after_rounds}
+use Rattle.ft_mean.proofs.RecallLemmas.{safe_after, rounds_join}
 use Rattle.ft_mean.proofs.recall.recall_all.Goals as goal
 
 pub recall-requires-2 : goal.recall-requires-2
 recall-requires-2 c =
-    subst (λ (seen : Seen). CanMemories seen c.args.tables.now.memories) (sym c.in_ok-half.ensures) (can_after c.args.tables.now c.args.start c.len.result c.requires)
+    subst (λ (seen : Seen). (t : ℕ) → AreSafeMemories (view_at seen t) c.args.tables.now.memories) (sym c.in_ok-half.ensures) (safe_after c.args.tables.now c.args.start c.len.result c.requires)
 
 pub returns : goal.returns
 returns c =

@@ -1,15 +1,17 @@
-use Rattle.std.proofs.Common.{◌∙◌, [], true, true≢false}
+use Rattle.std.proofs.Common.{◌∙◌, refl, [], true, true≢false}
 use Rattle.ft_core.specs.declared.tables.Section.TheVariants.{In}
+use Rattle.ft_core.specs.declared.tables.VarKind.TheVariants.{Input}
 use Rattle.ft_core.specs.Kinds.{monitored}
 use Rattle.ft_scan.proofs.RowLemmas.{row_keeps}
 use Rattle.ft_scan.proofs.MapLemmas.{has_values, image_maps}
 use Rattle.ft_scan.proofs.mapping.input_map.Goals as goal
 
-pub map_row-requires-clause-keeps : goal.map_row-requires-clause-keeps
-map_row-requires-clause-keeps c = row_keeps c.args.tables.now monitored c.args.monitored_row.now [] true c.requires.row (λ e. absurd (true≢false e))
-
-pub map_row-requires-clause-some : goal.map_row-requires-clause-some
-map_row-requires-clause-some c = has_values c.args.tables.now c.requires.proper In monitored (λ r may. may) c.args.monitored_row.now c.requires.row
+pub map_row-requires-clause-can : goal.map_row-requires-clause-can
+map_row-requires-clause-can c = record {
+  one_kind = (Input, refl);
+  keeps = row_keeps c.args.tables.now monitored c.args.monitored_row.now [] true c.requires.row (λ e. absurd (true≢false e));
+  some = has_values c.args.tables.now c.requires.proper In monitored (λ r may. may) c.args.monitored_row.now c.requires.row;
+}
 
 pub returns : goal.returns
 returns c = image_maps c.args.tables.now c.requires.proper In monitored (λ r may. may) c.args.monitored_row.now c.requires.row

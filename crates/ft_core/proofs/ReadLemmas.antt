@@ -1,0 +1,125 @@
+-- What terms and conditions read by their form, and lists of items to which reads are added.
+use Rattle.std.proofs.Common.{◌≡◌, ◌∙◌, sym, ap, ℕ, inl, inr, ◌+◌, ◌<◌, ℤ, List, [], ◌∷◌, ◌++◌, length, take, ◌⊎◌, append-nil, append_assoc, OnOk}
+use Rattle.std.specs.Prelude.{Result}
+use Rattle.std.proofs.lemmas.Result.{on_ok_weaker}
+use Rattle.std.specs.Prelude.{slice_index_or}
+use Rattle.std.specs.List.{flat_map}
+use Rattle.std.proofs.lemmas.List.{take_more}
+use Rattle.std.proofs.lemmas.List.Concat.{flat_map-append}
+use Rattle.std.proofs.lemmas.List.Elements.{filter_map-append}
+use Rattle.ft_core.specs.declared.term.Rel.{Rel}
+use Rattle.ft_core.specs.declared.term.Term.{Term}
+use Rattle.ft_core.specs.declared.term.Term.TheOpen as tl
+use Rattle.ft_core.specs.declared.term.Term.TheVariants.{Num, Now, Prev, Age, Neg, Add, Sub, Times, Div, rolls-Num, rolls-Now, rolls-Prev, rolls-Age, rolls-Neg, rolls-Add, rolls-Sub, rolls-Times, rolls-Div}
+use Rattle.ft_core.specs.declared.term.Cond.{Cond}
+use Rattle.ft_core.specs.declared.term.Cond.TheOpen as cl
+use Rattle.ft_core.specs.declared.term.Cond.TheVariants.{Yes, No, Compare, Memory, Not, And, Or, rolls-Yes, rolls-No, rolls-Compare, rolls-Memory, rolls-Not, rolls-And, rolls-Or}
+use Rattle.ft_core.specs.Gathering.{Adds, items_in}
+use Rattle.ft_core.specs.Items.{item_read}
+use Rattle.ft_core.specs.Reads.{Read, at_now, at_before, of_memory, of_age, term_reads, cond_reads}
+use Rattle.ft_core.proofs.TermLemmas.{reads-rolled, cond_reads-rolled}
+
+pub reads-Num : (n : ℤ) → term_reads (Num n) ≡ []
+reads-Num n = reads-rolled _ (tl.Num n) (rolls-Num n)
+
+pub reads-Now : (x : ℕ) → term_reads (Now x) ≡ at_now x ∷ []
+reads-Now x = reads-rolled _ (tl.Now x) (rolls-Now x)
+
+pub reads-Prev : (x : ℕ) → term_reads (Prev x) ≡ at_before x ∷ []
+reads-Prev x = reads-rolled _ (tl.Prev x) (rolls-Prev x)
+
+pub reads-Age : (m : ℕ) → term_reads (Age m) ≡ of_age m ∷ []
+reads-Age m = reads-rolled _ (tl.Age m) (rolls-Age m)
+
+pub reads-Neg : (e : Term) → term_reads (Neg e) ≡ term_reads e
+reads-Neg e = reads-rolled _ (tl.Neg e) (rolls-Neg e)
+
+pub reads-Add : (a b : Term) → term_reads (Add a b) ≡ term_reads a ++ term_reads b
+reads-Add a b = reads-rolled _ (tl.Add a b) (rolls-Add a b)
+
+pub reads-Sub : (a b : Term) → term_reads (Sub a b) ≡ term_reads a ++ term_reads b
+reads-Sub a b = reads-rolled _ (tl.Sub a b) (rolls-Sub a b)
+
+pub reads-Times : (c : ℤ) (e : Term) → term_reads (Times c e) ≡ term_reads e
+reads-Times c e = reads-rolled _ (tl.Times c e) (rolls-Times c e)
+
+pub reads-Div : (e : Term) (k : ℤ) → term_reads (Div e k) ≡ term_reads e
+reads-Div e k = reads-rolled _ (tl.Div e k) (rolls-Div e k)
+
+pub reads-Yes : cond_reads Yes ≡ []
+reads-Yes = cond_reads-rolled _ cl.Yes rolls-Yes
+
+pub reads-No : cond_reads No ≡ []
+reads-No = cond_reads-rolled _ cl.No rolls-No
+
+pub reads-Compare : (r : Rel) (a b : Term) → cond_reads (Compare r a b) ≡ term_reads a ++ term_reads b
+reads-Compare r a b = cond_reads-rolled _ (cl.Compare r a b) (rolls-Compare r a b)
+
+pub reads-Memory : (m : ℕ) → cond_reads (Memory m) ≡ of_memory m ∷ []
+reads-Memory m = cond_reads-rolled _ (cl.Memory m) (rolls-Memory m)
+
+pub reads-Not : (a : Cond) → cond_reads (Not a) ≡ cond_reads a
+reads-Not a = cond_reads-rolled _ (cl.Not a) (rolls-Not a)
+
+pub reads-And : (a b : Cond) → cond_reads (And a b) ≡ cond_reads a ++ cond_reads b
+reads-And a b = cond_reads-rolled _ (cl.And a b) (rolls-And a b)
+
+pub reads-Or : (a b : Cond) → cond_reads (Or a b) ≡ cond_reads a ++ cond_reads b
+reads-Or a b = cond_reads-rolled _ (cl.Or a b) (rolls-Or a b)
+
+-- the forms that read the same of their parts
+pub reads-either : (t a b : Term) → (t ≡ Add a b) ⊎ (t ≡ Sub a b) → term_reads t ≡ term_reads a ++ term_reads b
+reads-either t a b is = elim is [ inl e ↦ ap term_reads e ∙ reads-Add a b | inr e ↦ ap term_reads e ∙ reads-Sub a b ]
+
+pub cond_reads-either : (c a b : Cond) → (c ≡ And a b) ⊎ (c ≡ Or a b) → cond_reads c ≡ cond_reads a ++ cond_reads b
+cond_reads-either c a b is = elim is [ inl e ↦ ap cond_reads e ∙ reads-And a b | inr e ↦ ap cond_reads e ∙ reads-Or a b ]
+
+-- one more of a list is read
+pub flat_map-next : {X Y : Type 0} (f : X → List Y) (xs : List X) (i : ℕ) (x : X) → i < length xs → x ≡ slice_index_or xs i x
+    → flat_map f (take (i + 1) xs) ≡ flat_map f (take i xs) ++ f x
+flat_map-next {X} {Y} f xs i x within is =
+    ap (flat_map f) (take_more xs i x within ∙ ap (λ (y : X). take i xs ++ y ∷ []) (sym is)) ∙ flat_map-append f (take i xs) (x ∷ [])
+    ∙ ap (λ (l : List Y). flat_map f (take i xs) ++ l) (append-nil (f x))
+
+module _ (vars memories : ℕ) where
+  -- what reads no item of this scan
+  pub adds-silent : (t : Term) (items : List ℕ) → ((n : ℤ) × (t ≡ Num n)) ⊎ ((m : ℕ) × (t ≡ Age m)) → Adds vars memories (term_reads t) items items
+  adds-silent t items is = sym (append-nil items) ∙ ap (λ (l : List ℕ). items ++ l) (sym (silent is))
+    where
+      silent : ((n : ℤ) × (t ≡ Num n)) ⊎ ((m : ℕ) × (t ≡ Age m)) → items_in vars memories (term_reads t) ≡ []
+      silent (inl (n, e)) = ap (items_in vars memories) (ap term_reads e ∙ reads-Num n)
+      silent (inr (m, e)) = ap (items_in vars memories) (ap term_reads e ∙ reads-Age m)
+
+  pub adds-before : (t : Term) (items : List ℕ) (x : ℕ) → t ≡ Prev x → Adds vars memories (term_reads t) items items
+  adds-before t items x is = sym (append-nil items) ∙ ap (λ (l : List ℕ). items ++ l) (sym (ap (items_in vars memories) (ap term_reads is ∙ reads-Prev x)))
+
+  pub adds-constant : (c : Cond) (items : List ℕ) → (c ≡ Yes) ⊎ (c ≡ No) → Adds vars memories (cond_reads c) items items
+  adds-constant c items is = sym (append-nil items) ∙ ap (λ (l : List ℕ). items ++ l) (sym (silent is))
+    where
+      silent : (c ≡ Yes) ⊎ (c ≡ No) → items_in vars memories (cond_reads c) ≡ []
+      silent (inl e) = ap (items_in vars memories) (ap cond_reads e ∙ reads-Yes)
+      silent (inr e) = ap (items_in vars memories) (ap cond_reads e ∙ reads-No)
+
+  pub adds_none : (items : List ℕ) → Adds vars memories [] items items
+  adds_none items = sym (append-nil items)
+
+  pub adds_both : (a b : List Read) (old mid new : List ℕ) → Adds vars memories a old mid → Adds vars memories b mid new → Adds vars memories (a ++ b) old new
+  adds_both a b old mid new first second = second ∙ ap (λ (l : List ℕ). l ++ items_in vars memories b) first
+      ∙ append_assoc old (items_in vars memories a) (items_in vars memories b)
+      ∙ ap (λ (l : List ℕ). old ++ l) (sym (filter_map-append (item_read vars memories) a b))
+
+  -- the last step of two, where it may be refused
+  pub adds-last : {T E : Type 0} (r : Result T E) (reads a b : List Read) (old mid new : List ℕ) → reads ≡ a ++ b → Adds vars memories a old mid
+      → OnOk r (Adds vars memories b mid new) → OnOk r (Adds vars memories reads old new)
+  adds-last r reads a b old mid new are first second = on_ok_weaker r (λ (e : Adds vars memories b mid new). adds_both a b old mid new first e
+      ∙ ap (λ (l : List Read). old ++ items_in vars memories l) (sym are)) second
+
+  -- one more of a list is read
+  pub adds_more : {X : Type 0} (f : X → List Read) (xs : List X) (i : ℕ) (x : X) (old mid new : List ℕ) → i < length xs → x ≡ slice_index_or xs i x
+      → Adds vars memories (flat_map f (take i xs)) old mid → Adds vars memories (f x) mid new → Adds vars memories (flat_map f (take (i + 1) xs)) old new
+  adds_more f xs i x old mid new within is before here = adds_both (flat_map f (take i xs)) (f x) old mid new before here
+      ∙ ap (λ (l : List Read). old ++ items_in vars memories l) (sym (flat_map-next f xs i x within is))
+
+pub ruleset term_parts = (reads-Num, reads-Now, reads-Prev, reads-Age, reads-Neg, reads-Add, reads-Sub, reads-Times, reads-Div, adds_none, adds_both)
+
+pub ruleset cond_parts = (reads-Yes, reads-No, reads-Compare, reads-Memory, reads-Not, reads-And, reads-Or, adds_none, adds_both)

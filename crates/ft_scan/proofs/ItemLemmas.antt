@@ -1,0 +1,95 @@
+-- One item of a scan: where what it reads is told as the trace has it, its value or truth is the trace's.
+use Rattle.std.proofs.Common.{◌≡◌, ◌∙◌, sym, ap, refl, ℕ, zero, suc, ◌-◌, ◌<◌, ◌≤◌, ℤ, pos, Bool, false, List, [], ◌∷◌, ◌++◌, length, slice_get, Some, arith, ⊎_elim}
+use Rattle.std.specs.Prelude.{IsTrue}
+use Rattle.std.specs.List.{flat_map}
+use Rattle.std.proofs.lemmas.Bool.{cases_lt}
+use Rattle.std.proofs.lemmas.List.{length_push, get_or_push, get_or_append_left}
+use Rattle.ft_base.specs.Interval.{IsWithin}
+use Rattle.ft_core.specs.declared.tables.Tables.{Tables}
+use Rattle.ft_core.specs.declared.tables.Var.{Var}
+use Rattle.ft_core.specs.declared.tables.Side.{Side}
+use Rattle.ft_core.specs.declared.tables.Memory.TheVariants.{Held, Hyst}
+use Rattle.ft_core.specs.declared.term.Term.{Term}
+use Rattle.ft_core.specs.declared.term.Cond.{Cond}
+use Rattle.ft_core.specs.Kinds.{defined_kinds, section_of}
+use Rattle.ft_core.specs.Grids.{cells_for}
+use Rattle.ft_core.specs.Reads.{cell_reads, cond_reads, term_reads}
+use Rattle.ft_mean.specs.Cells.{defined, Follows}
+use Rattle.ft_mean.specs.Memory.{look, memory_at, at_scan, remembered}
+use Rattle.ft_mean.specs.Past.{held, hyst}
+use Rattle.ft_mean.specs.Proper.{AllProper}
+use Rattle.ft_mean.specs.Reading.{Reading, IsVar, begun, since}
+use Rattle.ft_mean.specs.Value.{View, truth, value}
+use Rattle.ft_mean.proofs.Agree.{AllSame, same_truth, same_value}
+use Rattle.ft_mean.proofs.MemoryLemmas.{look_local, memory_at-is}
+use Rattle.ft_mean.proofs.OneScan.{TableOf, Answer, table_of, defined_same, answer}
+use Rattle.ft_mean.proofs.PastLemmas.{same_held, same_hyst}
+use Rattle.ft_mean.proofs.WellFormed.{opened, IsWellFormed}
+use Rattle.ft_memo.specs.Timer.{held_after, truth_at, ago}
+use Rattle.ft_memo.specs.Band.{hyst_after, number_at}
+
+module _ (S : Tables) (proper : AllProper S) (s : Side) (a : Reading) (n : ℕ)
+    (range : (j x : ℕ) (v : Var) → j ≤ n → slice_get S.vars x ≡ Some v → IsWithin v.range (a j x))
+    (follows : Follows S (section_of s) (look S a n) (a n)) (F : View) where
+  abbrev wf : IsWellFormed S
+  wf = opened S
+
+  module _ (x : ℕ) (v : Var) (is : IsVar S (defined_kinds (section_of s)) x v)
+      (same : (o : TableOf S (section_of s) x) → AllSame F (look S a n) (flat_map cell_reads (cells_for x o.table.grid))) where
+    alike : (z : ℤ) → defined S (section_of s) F x z ≡ defined S (section_of s) (look S a n) x z
+    alike z = let o = table_of S wf (section_of s) x v is in defined_same S wf (section_of s) F (look S a n) x z o (same o)
+
+    one : Answer S (section_of s) (look S a n) x v.range
+    one = answer S wf proper (section_of s) (look S a n) x v is (λ o. look_local S wf a n range _)
+
+    -- some cell for it holds, and what a cell that holds gives is its value in the trace
+    pub has_value : (z : ℤ) × IsTrue (defined S (section_of s) F x z)
+    has_value = (a n x, alike (a n x) ∙ follows x v is)
+
+    pub is_value : (z : ℤ) → IsTrue (defined S (section_of s) F x z) → z ≡ a n x
+    is_value z found = one.only z (sym (alike z) ∙ found) ∙ sym (one.only (a n x) (follows x v is))
+
+-- all scans belong to one run
+begun_none : (S : Tables) (a : Reading) (t : ℕ) → begun S a t ≡ zero
+begun_none S a zero = refl
+begun_none S a (suc t) = begun_none S a t
+
+module _ (S : Tables) (a : Reading) (n m : ℕ) (F : View) where
+  abbrev here : ℕ → View
+  here = at_scan S a (memory_at S a)
+
+  -- a timer that was told the condition's truths up to the scan before is true now as the memory is
+  pub timer_is : (name : List ℕ) (side : Side) (c : Cond) (hold : ℤ) → slice_get S.memories m ≡ Some (Held name side c hold) → (truths : List Bool) → length truths ≡ n
+      → ((j : ℕ) → j < n → truth_at truths j ≡ truth (here j) c) → AllSame F (here n) (cond_reads c)
+      → held_after hold S.period (truths ++ truth F c ∷ []) ≡ memory_at S a m n
+  timer_is name side c hold there truths long told same =
+      let now = truth F c in
+      let last : length (truths ++ now ∷ []) - 1 ≡ n = omega (arith, length_push truths now, long) in
+      ap (λ t. held 0 (ago S.period t) hold (truth_at (truths ++ now ∷ [])) t) last
+      ∙ same_held 0 (ago S.period n) hold (truth_at (truths ++ now ∷ [])) (λ j. truth (here j) c) n (λ j l. ⊎_elim
+      (λ less. get_or_append_left truths (now ∷ []) false j (omega (arith, less, long)) ∙ told j less)
+      (λ most. let eq : n ≡ j = omega (arith, l, most) in
+      get_or_push truths now false j (long ∙ eq) ∙ same_truth F (here n) c same ∙ ap (λ i. truth (here i) c) eq)
+      (cases_lt j n))
+      ∙ ap (λ from. held from (λ j. since S a j n) hold (λ j. truth (here j) c) n) (sym (begun_none S a n))
+      ∙ sym (memory_at-is S (opened S).rank (opened S).order a m n ∙ ap (λ o. remembered S a (memory_at S a) o n) there)
+
+  -- the same of a band and its numbers
+  pub band_is : (name : List ℕ) (side : Side) (e : Term) (lo hi : ℤ) (start : Bool) → slice_get S.memories m ≡ Some (Hyst name side e lo hi start) → (numbers : List ℤ)
+      → length numbers ≡ n → ((j : ℕ) → j < n → number_at numbers j ≡ value (here j) e) → AllSame F (here n) (term_reads e)
+      → hyst_after lo hi start (numbers ++ value F e ∷ []) ≡ memory_at S a m n
+  band_is name side e lo hi start there numbers long told same =
+      let now = value F e in
+      let last : length (numbers ++ now ∷ []) ≡ suc n = length_push numbers now ∙ omega (arith, long) in
+      after lo hi start (numbers ++ now ∷ []) n last
+      ∙ same_hyst 0 lo hi start (number_at (numbers ++ now ∷ [])) (λ j. value (here j) e) n (λ j l. ⊎_elim
+      (λ less. get_or_append_left numbers (now ∷ []) (pos 0) j (omega (arith, less, long)) ∙ told j less)
+      (λ most. let eq : n ≡ j = omega (arith, l, most) in
+      get_or_push numbers now (pos 0) j (long ∙ eq) ∙ same_value F (here n) e same ∙ ap (λ i. value (here i) e) eq)
+      (cases_lt j n))
+      ∙ ap (λ from. hyst from lo hi start (λ j. value (here j) e) n) (sym (begun_none S a n))
+      ∙ sym (memory_at-is S (opened S).rank (opened S).order a m n ∙ ap (λ o. remembered S a (memory_at S a) o n) there)
+    where
+      after : (lo hi : ℤ) (start : Bool) (xs : List ℤ) (k : ℕ) → length xs ≡ suc k → hyst_after lo hi start xs ≡ hyst 0 lo hi start (number_at xs) k
+      after lo hi start [] k e = absurd (omega (arith, e))
+      after lo hi start (x ∷ xs) k e = let rest : length xs ≡ k = omega (arith, e) in ap (hyst 0 lo hi start (number_at (x ∷ xs))) rest

@@ -1,0 +1,30 @@
+-- What a scanner stands for: the given rows so far, and the rows of the trace that fits them.
+use Rattle.std.specs.Prelude.{ℕ, ◌≡◌, pos, List, length, slice_get, slice_index_or, Some, IsTrue}
+use Rattle.ft_core.specs.declared.tables.Tables.{Tables}
+use Rattle.ft_core.specs.declared.tables.Var.{Var}
+use Rattle.ft_core.specs.Kinds.{Kinds, given_kinds, side_kinds, count_of, place_of, is_of}
+use Rattle.ft_core.specs.Sound.{is_memory_of}
+use Rattle.ft_mean.specs.Fits.{Fits, side_reading}
+use Rattle.ft_mean.specs.Reading.{Scans, IsVar, before}
+use Rattle.ft_scan.specs.declared.scanner.Scanner.{Scanner}
+use Rattle.ft_scan.specs.Frame.{IsFrameOf}
+use Rattle.ft_scan.specs.Plan.{IsPlan}
+use Rattle.ft_scan.specs.Told.{RunsFor}
+
+-- the places in the set of all variables of these kinds, in order of declaration
+pub record ArePlaces (S : Tables) (kinds : Kinds) (places : List ℕ) : Type 0 where
+  pub count : length places ≡ count_of kinds S.vars
+  pub each : (x : ℕ) → IsTrue (is_of S.vars kinds x) → slice_get places (place_of kinds S.vars x) ≡ Some x
+
+-- it stands for a given list and a trace that fits: it keeps the values of the trace's last scan, and each memory of its side
+-- was told all its scans; its steps and places are those of the set
+pub record Stands (S : Tables) (scanner : Scanner) (given rows : Scans) : Type 0 where
+  pub fits : Fits S scanner.side given rows
+  pub past : (x : ℕ) (v : Var) → IsVar S (side_kinds scanner.side) x v
+      → slice_index_or scanner.frame.past x (pos 0) ≡ before S (side_reading S scanner.side rows) (length rows) x
+  pub runs : (m : ℕ) → IsTrue (is_memory_of S.memories scanner.side m)
+      → RunsFor S (side_reading S scanner.side rows) (length rows) m scanner.frame
+  pub is_frame : IsFrameOf S scanner.frame
+  pub plan : IsPlan S scanner.side scanner.steps
+  pub given_places : ArePlaces S (given_kinds scanner.side) scanner.given
+  pub own_places : ArePlaces S (side_kinds scanner.side) scanner.own
