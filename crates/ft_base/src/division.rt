@@ -23,29 +23,3 @@ pub fn ceil_div(a: i64, k: i64) -> i64
         quotient + 1
     }
 }
-
-#[cfg(test)]
-mod tests {
-    use super::*;
-
-    #[test]
-    fn rounds_down_and_up(rt: HostRuntime) {
-        let rows = [
-            (-1i64, 4i64, -1i64, 0i64),
-            (-4, 4, -1, -1),
-            (-5, 4, -2, -1),
-            (0, 7, 0, 0),
-            (1, 4, 0, 1),
-            (8, 4, 2, 2),
-            (i64::MIN, 1, i64::MIN, i64::MIN),
-            (i64::MAX, 2, 4611686018427387903, 4611686018427387904),
-            (i64::MIN, i64::MAX, -2, -1),
-        ];
-        for (a, k, floor, ceiling) in rows {
-            if k > 0 {
-                assert_eq!(rt; div_floor(a, k), floor, "{a} down by {k}");
-                assert_eq!(rt; ceil_div(a, k), ceiling, "{a} up by {k}");
-            }
-        }
-    }
-}

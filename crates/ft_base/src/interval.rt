@@ -65,26 +65,3 @@ impl<const LIMIT: u64> Interval<LIMIT> {
         self.lo <= value && value <= self.hi
     }
 }
-
-#[cfg(test)]
-mod tests {
-    use super::*;
-
-    #[test]
-    fn refuses_bounds_beyond_the_limit(rt: HostRuntime) {
-        assert_eq!(rt; Range::new(-1_000_000_000, 1_000_000_000).is_some(), true);
-        assert_eq!(rt; Range::new(-1_000_000_001, 0).is_some(), false);
-        assert_eq!(rt; Range::new(0, 1_000_000_001).is_some(), false);
-        assert_eq!(rt; Range::new(1, 0).is_some(), false);
-        assert_eq!(rt; Span::new(0, 4_000_000_000_000_000).is_some(), true);
-        assert_eq!(rt; Span::new(0, 4_000_000_000_000_001).is_some(), false);
-        assert_eq!(rt; Span::new(i64::MIN, 0).is_some(), false);
-        if let Some(range) = Range::new(-2, 7) {
-            assert_eq!(rt; (range.lo(), range.hi()), (-2, 7));
-            assert_eq!(rt;
-                (range.has(-3), range.has(-2), range.has(7), range.has(8)),
-                (false, true, true, false)
-            );
-        }
-    }
-}

@@ -136,30 +136,3 @@ impl<T: Copy> List<T> {
         }
     }
 }
-
-#[cfg(test)]
-mod tests {
-    use super::*;
-    use crate::boxed::Boxed;
-    use crate::duplicate::Duplicate;
-    use std::test::Fail;
-
-    #[test]
-    fn keeps_what_it_is_given(rt: HostRuntime) -> Result<(), Fail> {
-        let mut list = List::copy_of(rt.alloc(), &[1i64, 2])?;
-        list.push(3)?;
-        list.extend(&[4, 5])?;
-        list.set(0, 9);
-        assert_eq!(rt; list.pop(), Some(5));
-        list.truncate(3);
-        assert_eq!(rt; list.as_slice(), [9, 2, 3].as_slice());
-        let copy = list.duplicate(rt.alloc())?;
-        assert_eq!(rt; copy.as_slice(), list.as_slice());
-        let boxed = Boxed::new(rt.alloc(), copy)?.duplicate(rt.alloc())?;
-        assert_eq!(rt; boxed.get().len(), 3);
-        assert_eq!(rt; boxed.get().is_empty(), false);
-        let again = List::from_vec(boxed.into_inner().into_vec());
-        assert_eq!(rt; again.as_slice(), [9, 2, 3].as_slice());
-        Ok(())
-    }
-}
