@@ -9,9 +9,10 @@ use Rattle.std.proofs.lemmas.List.Elements.{All-contains}
 use Rattle.std.proofs.lemmas.List.Sums.{prefix_len-le-length}
 use Rattle.ft_lex.specs.declared.token.TokenKind.{TokenKind}
 use Rattle.ft_lex.specs.declared.token.TokenKind.TheVariants.{Name, Number, Word, Sign, End, Bad}
-use Rattle.ft_lex.specs.Bytes.{is_letter, is_digit, is_name_byte}
+use Rattle.ft_base.specs.Names.{is_letter, is_name_byte, is_reserved_word}
+use Rattle.ft_base.specs.Digits.{is_digit}
 use Rattle.ft_lex.specs.Tokens.{BeginsNone, IsLongestSign, IsNameShape, IsShape, is_last}
-use Rattle.ft_lex.specs.Words.{is_reserved_word, signs}
+use Rattle.ft_lex.specs.Signs.{signs}
 use Rattle.ft_lex.specs.Reading.{Shape, name_shape, shape_of, sign_len, sign_shape}
 use Rattle.ft_lex.proofs.SpaceLemmas.{not_true}
 use Rattle.ft_lex.proofs.SignLemmas.{all-tested, sign_len-found, sign_len-longest}

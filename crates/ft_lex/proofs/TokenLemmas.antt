@@ -56,6 +56,23 @@ follow text from t (u ∷ more) next h =
     let same : u ≡ t = next-same text from u t h.0 next in
     (more, ap (λ (x : Token). x ∷ more) same, subst (λ (x : Token). MatchBool (is_last x.kind) (more ≡ []) (AreTokensFrom text x.end more)) same h.1)
 
+-- the tokens from a place on are determined
+pub one-list : (text : List ℕ) (from : ℕ) (tokens others : List Token) → AreTokensFrom text from tokens → AreTokensFrom text from others
+    → tokens ≡ others
+one-list text from [] others h k = absurd h
+one-list text from (t ∷ ts) others h k =
+    let found = follow text from t others h.0 k in
+    elim (cases_Bool (is_last t.kind)) [
+      | inl ends ↦
+          let none : ts ≡ [] = subst (λ (b : _). MatchBool b (ts ≡ []) (AreTokensFrom text t.end ts)) ends h.1 in
+          let no_more : found.0 ≡ [] = subst (λ (b : _). MatchBool b (found.0 ≡ []) (AreTokensFrom text t.end found.0)) ends found.2 in
+          ap (λ (l : List Token). t ∷ l) (none ∙ sym no_more) ∙ sym found.1
+      | inr goes ↦
+          let here = subst (λ (b : _). MatchBool b (ts ≡ []) (AreTokensFrom text t.end ts)) goes h.1 in
+          let there = subst (λ (b : _). MatchBool b (found.0 ≡ []) (AreTokensFrom text t.end found.0)) goes found.2 in
+          ap (λ (l : List Token). t ∷ l) (one-list text t.end ts found.0 here there) ∙ sym found.1
+    ]
+
 pub read-more : (text : List ℕ) (from : ℕ) (list : List Token) (t : Token) → IsReadTo text from list → IsNext text from t → is_last t.kind ≡ false → IsReadTo text t.end (list ++ t ∷ [])
 read-more text from list t read next goes = record {
   builds = λ more h. subst (λ (l : List Token). IsTokens text l) (sym (append_assoc list (t ∷ []) more)) (read.builds (t ∷ more) (next, goes_on t _ _ goes h));

@@ -1,13 +1,16 @@
 -- The reading of one token from left to right.
-use Rattle.std.specs.Prelude.{ℕ, suc, zero, ◌+◌, ◌==◌, List, [], ◌∷◌, Bool, true, length, take, if◌then◌else◌, nat_eq}
-use Rattle.std.specs.List.{prefix_len, starts_with}
+use Rattle.std.specs.Prelude.{ℕ, suc, zero, ◌+◌, ◌==◌, ◌≤◌, List, [], ◌∷◌, Bool, true, length, take, if◌then◌else◌, nat_eq}
+use Rattle.std.specs.Io.{StartsWith}
+use Rattle.std.specs.List.{prefix_len, starts_with, Contains}
 use Rattle.ft_lex.specs.declared.token.TokenKind.{TokenKind}
 use Rattle.ft_lex.specs.declared.token.TokenKind.TheVariants.{Name, Number, Word, Sign, End, Bad}
 use Rattle.ft_lex.specs.declared.space.Within.{Within}
 use Rattle.ft_lex.specs.declared.space.Within.TheVariants.{Blanks, Comment}
 use Rattle.ft_base.specs.declared.place.Place.{Place}
-use Rattle.ft_lex.specs.Bytes.{begins_space, is_letter, is_digit, is_name_byte}
-use Rattle.ft_lex.specs.Words.{is_reserved_word, signs}
+use Rattle.ft_base.specs.Names.{is_letter, is_name_byte, is_reserved_word}
+use Rattle.ft_base.specs.Digits.{is_digit}
+use Rattle.ft_lex.specs.Bytes.{begins_space}
+use Rattle.ft_lex.specs.Signs.{signs}
 
 -- whether the byte belongs to the space
 abbrev pub goes_on : Within → ℕ → Bool
@@ -35,6 +38,10 @@ first_len text (x ∷ more) bytes = if starts_with nat_eq bytes (text x) then le
 -- the length of the longest sign that the bytes begin with, or 0
 abbrev pub sign_len : List ℕ → ℕ
 sign_len bytes = first_len (λ text. text) signs bytes
+
+-- no sign that the bytes begin with is longer than that
+abbrev pub SignsLongest : Type 0
+SignsLongest = (bytes sign : List ℕ) → Contains signs sign → StartsWith bytes sign → length sign ≤ sign_len bytes
 
 -- a kind, and a number of bytes
 abbrev pub Shape : Type 0

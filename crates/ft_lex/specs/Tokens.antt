@@ -7,10 +7,12 @@ use Rattle.std.specs.Str.{bytes_eq}
 use Rattle.ft_lex.specs.declared.token.TokenKind.{TokenKind}
 use Rattle.ft_lex.specs.declared.token.TokenKind.TheVariants.{Name, Number, Word, Sign, End, Bad}
 use Rattle.ft_lex.specs.declared.token.Token.{Token}
-use Rattle.ft_lex.specs.Bytes.{begins_space, is_letter, is_digit, is_name_byte}
+use Rattle.ft_base.specs.Names.{is_letter, is_name_byte, is_reserved_word}
+use Rattle.ft_base.specs.Digits.{is_digit}
+use Rattle.ft_lex.specs.Bytes.{begins_space}
 use Rattle.ft_lex.specs.Place.{place_after}
 use Rattle.ft_lex.specs.Space.{IsSpaceBefore}
-use Rattle.ft_lex.specs.Words.{is_reserved_word, signs}
+use Rattle.ft_lex.specs.Signs.{signs}
 
 -- the bytes of a token
 abbrev pub token_text : List ℕ → Token → List ℕ
@@ -112,3 +114,7 @@ AreTokensFrom text from (token ∷ more) = IsNext text from token × MatchBool (
 -- they are the tokens of the text
 abbrev pub IsTokens : List ℕ → List Token → Type 0
 IsTokens text tokens = AreTokensFrom text 0 tokens
+
+-- a text has one list of tokens
+abbrev pub OneTokens : Type 0
+OneTokens = (text : List ℕ) (tokens others : List Token) → IsTokens text tokens → IsTokens text others → tokens ≡ others

@@ -1,6 +1,7 @@
 //! The tokens of a set's text: names, numbers, reserved words and signs, each with its place.
 #![tactic(auto)]
 
+mod law;
 mod places;
 mod reading;
 mod shapes;
@@ -8,6 +9,7 @@ mod space;
 mod token;
 mod words;
 
+pub use law::{one_tokens, signs_longest};
 pub use reading::tokens;
 pub use token::{Token, TokenKind};
 pub use words::is_reserved;

@@ -49,6 +49,3 @@ pub fn tokens(alloc: Global, text: &[u8]) -> Result<List<Token>, NoMemory>
         from = token.end;
     }
 }
-
-#[cfg(test)]
-mod tests;

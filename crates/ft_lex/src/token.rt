@@ -1,7 +1,7 @@
 use ft_base::Place;
 
 /// What a token is.
-#[derive(Clone, Copy, Debug, PartialEq, Eq, Drop)]
+#[derive(Clone, Copy, PartialEq, Eq, Drop)]
 pub enum TokenKind {
     /// A letter with the letters, digits and `_` after it, that is no reserved word.
     Name,
@@ -18,7 +18,7 @@ pub enum TokenKind {
 }
 
 /// A token of a text: its kind, the bytes from `start` to before `end`, and the place of the first.
-#[derive(Clone, Copy, Debug, PartialEq, Eq, Drop)]
+#[derive(Clone, Copy, PartialEq, Eq, Drop)]
 pub struct Token {
     pub kind: TokenKind,
     /// Where its bytes begin, from 0.

@@ -1,7 +1,7 @@
 ghost use Rattle.std.specs.Prelude.{◌≡◌};
 ghost use Rattle.std.specs.List.{list_any};
 ghost use Rattle.std.specs.Str.{bytes_eq};
-ghost use Rattle.ft_lex.specs.Words.{is_reserved_word};
+ghost use Rattle.ft_base.specs.Names.{is_reserved_word};
 ghost use Rattle.ft_lex.specs.Reading.{first_len, sign_len};
 
 const RESERVED: [&[u8]; 43] = [
@@ -68,7 +68,7 @@ fn is_one_of(word: &[u8], words: &[&[u8]]) -> bool
 }
 
 /// Whether the bytes are a reserved word, which no name may be.
-#[tactic(auto, unfolding(crate::specs::Words::is_reserved_word, crate::specs::Words::reserved_words))]
+#[tactic(auto, unfolding(ft_base::specs::Names::is_reserved_word, ft_base::specs::Names::reserved_words))]
 pub fn is_reserved(word: &[u8]) -> bool
     ensures { result ≡ is_reserved_word word.now }
 {
@@ -89,7 +89,7 @@ fn first_match(bytes: &[u8], texts: &[&[u8]]) -> usize
 }
 
 /// The length of the longest sign that the bytes begin with, or 0.
-#[tactic(auto, unfolding(crate::specs::Reading::first_len, crate::specs::Words::signs))]
+#[tactic(auto, unfolding(crate::specs::Reading::first_len, crate::specs::Signs::signs))]
 pub fn longest_sign(bytes: &[u8]) -> usize
     ensures { result ≡ sign_len bytes.now }
 {

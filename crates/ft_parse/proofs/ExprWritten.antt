@@ -8,7 +8,7 @@ use native.Mathlib.Omega.{arith}
 use Rattle.ft_base.specs.declared.place.Place.{Place}
 use Rattle.ft_lex.specs.declared.token.TokenKind.{TokenKind}
 use Rattle.ft_lex.specs.declared.token.TokenKind.TheVariants as kind
-use Rattle.ft_lex.specs.Words.{is_reserved_word, reserved_words}
+use Rattle.ft_base.specs.Names.{is_name, is_reserved_word, reserved_words}
 use Rattle.ft_tree.specs.declared.expr.Op.{Op}
 use Rattle.ft_tree.specs.declared.expr.Op.TheVariants.{Or, And, Eq, Ne, Lt, Le, Gt, Ge, Add, Sub, Mul, Div}
 use Rattle.ft_tree.specs.declared.expr.Expr.{Expr}
@@ -18,18 +18,18 @@ use Rattle.ft_tree.specs.declared.level.Level.TheVariants.{Disjunction, Conjunct
 use Rattle.ft_tree.specs.Expression.{Spelled, expr_pieces, operand, spelled, spells, truth_word}
 use Rattle.ft_tree.specs.Expression
 use Rattle.ft_tree.specs.Level.{is_looser, left_level, op_level, op_sign, rank, right_level}
-use Rattle.ft_tree.specs.Limits.{Nested, is_expr, is_lawful, is_name, nested, nests, operand_depth}
+use Rattle.ft_tree.specs.Limits.{Nested, is_expr, is_lawful, nested, nests, operand_depth}
 use Rattle.ft_tree.specs.Line
 use Rattle.ft_tree.specs.Line.{Piece}
 use Rattle.ft_tree.specs.Tokens.{Shape, kind_of, piece_shape}
-use Rattle.ft_tree.proofs.ExprLemmas.{spelled-Num, spelled-Name, spelled-Truth, spelled-Prev, spelled-Age, spelled-Not, spelled-Neg, spelled-Two}
-use Rattle.ft_tree.proofs.ExprParts.{expr_induction, lawful-Num, lawful-Name, lawful-Prev, lawful-Age, lawful-Not, lawful-Neg, lawful-Two}
+use Rattle.ft_tree.specs.ExprParts.{expr_induction, lawful-Num, lawful-Name, lawful-Prev, lawful-Age, lawful-Not, lawful-Neg, lawful-Two}
+use Rattle.ft_tree.specs.ExprParts.{spelled-Num, spelled-Name, spelled-Truth, spelled-Prev, spelled-Age, spelled-Not, spelled-Neg, spelled-Two}
 use Rattle.ft_parse.specs.Lexeme.{Lexeme, as_name, as_sign, as_word}
 use Rattle.ft_parse.specs.Language.{Language, Step, either, lexemes, nothing, token}
 use Rattle.ft_parse.specs.Limit.{opening, own_pass, within}
 use Rattle.ft_parse.specs.Expressions.{Nest, as_and, as_or, as_product, as_relation, as_simple, as_sum, atom, chain, comparison, conjunction, disjunction, expression, group, history, negation, negated, prefixed, product, right_of, signed, sum, two, unary, whole}
 use Rattle.ft_parse.specs.Expressions
-use Rattle.ft_parse.specs.Same.{bare_expr, start}
+use Rattle.ft_tree.specs.Bare.{bare_expr, start}
 use Rattle.ft_parse.specs.declared.parts.Entry.{Entry}
 use Rattle.ft_parse.specs.declared.parts.Operator.{Operator}
 use Rattle.ft_parse.proofs.Lifts.{after, after-is, chain-more, lift, part_at}

@@ -7,7 +7,7 @@ use Rattle.std.proofs.lemmas.List.Concat.{flat_map-cons}
 use native.Mathlib.Omega.{arith}
 use Rattle.ft_base.specs.declared.place.Place.{Place}
 use Rattle.ft_lex.specs.declared.token.TokenKind.TheVariants as token_kind
-use Rattle.ft_lex.specs.Words.{is_reserved_word, reserved_words}
+use Rattle.ft_base.specs.Names.{is_reserved_word, reserved_words}
 use Rattle.ft_tree.specs.declared.expr.Expr.{Expr}
 use Rattle.ft_tree.specs.declared.item.Word.{Word}
 use Rattle.ft_tree.specs.declared.item.Number.{Number}
@@ -36,7 +36,7 @@ use Rattle.ft_parse.specs.Language.{Language, either, no_pass, nothing, token, â
 use Rattle.ft_parse.specs.Limit.{counted, counted_at, is_full, no_more_facts}
 use Rattle.ft_parse.specs.Expressions.{expression}
 use Rattle.ft_parse.specs.Items
-use Rattle.ft_parse.specs.Same.{bare_bound, bare_expr, bare_fact, bare_item, bare_kind, bare_row, bare_vrow, bare_word, start}
+use Rattle.ft_tree.specs.Bare.{bare_bound, bare_expr, bare_fact, bare_item, bare_kind, bare_row, bare_vrow, bare_word, start}
 use Rattle.ft_parse.specs.declared.parts.SectionAt.{SectionAt}
 use Rattle.ft_parse.specs.declared.stop.LimitWord.TheVariants as limit
 use Rattle.ft_parse.proofs.ExprWritten.{Same, expr-written}

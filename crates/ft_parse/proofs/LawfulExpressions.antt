@@ -11,7 +11,8 @@ use Rattle.ft_tree.specs.declared.expr.Expr.TheVariants as expr
 use Rattle.ft_tree.specs.declared.level.Level.{Level}
 use Rattle.ft_tree.specs.declared.level.Level.TheVariants.{Disjunction, Conjunction, Negation, Comparison, Sum, Product, Unary, Atom}
 use Rattle.ft_tree.specs.Level.{left_of, op_level, rank, tighter}
-use Rattle.ft_tree.specs.Limits.{is_expr, is_name}
+use Rattle.ft_base.specs.Names.{is_name}
+use Rattle.ft_tree.specs.Limits.{is_expr}
 use Rattle.ft_parse.specs.Lexeme.{Lexeme, as_sign, as_word}
 use Rattle.ft_parse.specs.Language.{Language, Passes, Step, either, nothing, repeated, step, times, token, ◌▷◌}
 use Rattle.ft_parse.specs.Limit.{is_extra, is_late, opening, within}

@@ -20,7 +20,8 @@ use Rattle.ft_tree.specs.declared.item.FactItem.{FactItem}
 use Rattle.ft_tree.specs.declared.item.Item.{Item}
 use Rattle.ft_tree.specs.declared.item.Item.TheVariants as item
 use Rattle.ft_tree.specs.Limits.{IsSet, Sort, are_entries, are_listed, blocks, clauses, constants, facts_of, is_bound, is_count, is_expr, is_fact}
-use Rattle.ft_tree.specs.Limits.{is_hold, is_init, is_init_value, is_item, is_kind, is_name, is_number, is_option, is_plain, is_row, is_same_sort}
+use Rattle.ft_base.specs.Names.{is_name}
+use Rattle.ft_tree.specs.Limits.{is_hold, is_init, is_init_value, is_item, is_kind, is_number, is_option, is_plain, is_row, is_same_sort}
 use Rattle.ft_tree.specs.Limits.{is_side, is_vrow, is_word, limit_of, memories, sort_of, tables, types, variables}
 use Rattle.ft_parse.specs.Lexeme.{Lexeme, as_end, as_name, as_sign, as_word}
 use Rattle.ft_parse.specs.Language.{Language, Passes, Plain, Step, either, lexemes, no_pass, nothing, repeated, step, times, token, ◌▷◌}

@@ -3,7 +3,7 @@ use Rattle.std.proofs.Common.{◌≡◌, subst, ◌≤◌, ◌+◌, ◌*◌, ◌
 use Rattle.std.specs.List.{All}
 use Rattle.ft_lex.specs.declared.token.Token.{Token}
 use Rattle.ft_lex.specs.Tokens.{LiesIn}
-use Rattle.ft_parse.specs.Lexeme.{decimal_value}
+use Rattle.ft_base.specs.Digits.{decimal_value}
 
 -- the tokens after the first lie in the text too
 pub rest-lies : (text : List ℕ) (tokens : List Token) (token : Token) (rest : List Token) → tokens ≡ token ∷ rest → All (LiesIn text) tokens → All (LiesIn text) rest

@@ -1,36 +1,37 @@
-mod Told
-mod Many
-mod Whole
-mod Rule
-mod Forms
-mod Rises
-mod ExpressionRules
-mod NestedRules
-mod ItemRules
-mod InnerTokens
 mod Answers
-pub mod LexemeLemmas
-pub mod CursorLemmas
-pub mod Shorter
-pub mod SimpleLemmas
-pub mod LevelLemmas
-pub mod BoundLemmas
-pub mod ListLemmas
-pub mod CountLemmas
-pub mod TableLemmas
-pub mod MemoryLemmas
-pub mod BlockLemmas
-pub mod SetLemmas
-mod RealTokens
+mod ExprWritten
+mod ExpressionRules
+mod FaultLemmas
 mod Fits
+mod Forms
+mod InnerTokens
+mod ItemRules
+mod ItemsWritten
 mod LawfulExpressions
 mod LawfulItems
-mod ParsingLemmas
-mod Writes
-mod Marks
-mod SameLemmas
 mod Lifts
-mod ExprWritten
+mod Many
+mod Marks
+mod NestedRules
+mod ParsingLemmas
 mod PartsWritten
-mod ItemsWritten
+mod RealTokens
+mod Rises
 mod RoundTrip
+mod Rule
+mod SameLemmas
+mod Told
+mod Whole
+mod Writes
+pub mod BlockLemmas
+pub mod BoundLemmas
+pub mod CountLemmas
+pub mod CursorLemmas
+pub mod LevelLemmas
+pub mod LexemeLemmas
+pub mod ListLemmas
+pub mod MemoryLemmas
+pub mod SetLemmas
+pub mod Shorter
+pub mod SimpleLemmas
+pub mod TableLemmas

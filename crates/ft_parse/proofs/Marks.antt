@@ -1,24 +1,20 @@
 -- The pieces of words, signs, names and numbers, and what their tokens are read as.
-use Rattle.std.proofs.Common.{◌≡◌, ◌∙◌, sym, refl, ℕ, ◌+◌, ◌*◌, ◌-◌, ◌%◌, ◌^◌, ◌<◌, Bool, true, false, not, ◌&&◌, List, [], ◌∷◌, ◌++◌, decimal, length, nat_le, Option, Some, None}
+use Rattle.std.proofs.Common.{◌≡◌, ◌∙◌, sym, refl, ℕ, ◌+◌, ◌*◌, ◌-◌, ◌%◌, ◌^◌, ◌<◌, Bool, true, false, not, ◌&&◌, List, [], ◌∷◌, decimal, length, nat_le, Option, Some, None}
 use native.Mathlib.Omega.{arith}
 use Rattle.std.specs.List.{list_all}
-use Rattle.std.specs.Str.{bytes_eq}
 use Rattle.std.proofs.lemmas.Bool.{and_parts, leb-true, not-true, false_from_ne_true, both_ways}
 use Rattle.std.proofs.lemmas.Bool.Decides.{nat_tests}
 use Rattle.std.proofs.lemmas.Fmt.{decimal_by_steps}
-use Rattle.std.proofs.lemmas.List.Elements.{All-contains}
 use Rattle.std.proofs.lemmas.List.Sums.{fold-append}
-use Rattle.std.proofs.lemmas.Map.Views.{Contains-from_any}
-use Rattle.std.proofs.lemmas.Slice.Eq.{bytes_eq-Decides}
 use Rattle.ft_base.specs.declared.place.Place.{Place}
 use Rattle.ft_lex.specs.declared.token.TokenKind.{TokenKind}
 use Rattle.ft_lex.specs.declared.token.TokenKind.TheVariants as kind
-use Rattle.ft_lex.specs.Bytes.{is_digit, is_name_byte}
-use Rattle.ft_lex.specs.Words.{is_reserved_word, reserved_words}
-use Rattle.ft_lex.proofs.SignLemmas.{all-tested}
-use Rattle.ft_tree.specs.Limits.{begins_by_letter, is_name, is_number}
-use Rattle.ft_tree.specs.Tokens.{begins_by_digit, kind_of}
-use Rattle.ft_parse.specs.Lexeme.{Lexeme, as_sign, as_word, decimal_value}
+use Rattle.ft_base.specs.Digits.{begins_by_digit, begins-push, decimal_value}
+use Rattle.ft_base.specs.Names.{begins_by_letter, is_name, is_name_byte, is_reserved_word}
+use Rattle.ft_base.specs.Reserved.{reserved-begins}
+use Rattle.ft_tree.specs.Limits.{is_number}
+use Rattle.ft_tree.specs.Tokens.{kind_of}
+use Rattle.ft_parse.specs.Lexeme.{Lexeme, as_sign, as_word}
 use Rattle.ft_parse.specs.Language.{Passes, token}
 use Rattle.ft_parse.specs.Limit.{own_pass}
 use Rattle.ft_parse.proofs.Forms.{itself-bytes}
@@ -57,16 +53,9 @@ record IsDecimal (n : ℕ) (bytes : List ℕ) : Type 0 where
   first : begins_by_digit bytes ≡ true
   value : decimal_value bytes ≡ n
 
-digit-is : (n : ℕ) → n < 10 → is_digit (48 + n) ≡ true
-digit-is n h = grind (arith, nat_tests)
-
-begins-push : (bytes : List ℕ) (b : ℕ) → begins_by_digit bytes ≡ true → begins_by_digit (bytes ++ b ∷ []) ≡ true
-begins-push [] b h = absurd (cc h)
-begins-push (c ∷ more) b h = h
-
 decimal-is : (n : ℕ) → n < 2 ^ 64 → IsDecimal n (decimal n)
 decimal-is n small = decimal_by_steps IsDecimal
-    (λ m below. record { first = digit-is m below; value = omega arith })
+    (λ m below. record { first = grind (arith, nat_tests, below); value = omega arith })
     (λ m bytes large before. record {
       first = begins-push bytes (48 + m % 10) before.first;
       value = fold-append (λ value digit. value * 10 + (digit - 48)) 0 bytes ((48 + m % 10) ∷ []) ∙ omega (arith, before.value);
@@ -82,29 +71,15 @@ pub number-own : (value : ℕ) → is_number value ≡ true → (place : Place) 
     ≡ None
 number-own value h place = rw (value-back value h, h) refl
 
-reserved-letters : list_all begins_by_letter reserved_words ≡ true
-unfolding reserved_words
-reserved-letters = refl
-
-same-bytes : (bytes other : List ℕ) → bytes_eq bytes other ≡ true → bytes ≡ other
-same-bytes bytes other h = (bytes_eq-Decides bytes other).0 h
-
-reserved-begins : (bytes : List ℕ) → is_reserved_word bytes ≡ true → begins_by_letter bytes ≡ true
-unfolding is_reserved_word
-reserved-begins bytes h =
-    All-contains (λ (x : List ℕ). begins_by_letter x ≡ true) reserved_words bytes
-    (all-tested begins_by_letter reserved_words reserved-letters)
-    (Contains-from_any same-bytes bytes reserved_words h)
-
-digit-no_letter : (bytes : List ℕ) → begins_by_digit bytes ≡ true → begins_by_letter bytes ≡ false
-digit-no_letter [] h = refl
-digit-no_letter (b ∷ more) h = grind (arith, nat_tests)
+digits-no_word : (bytes : List ℕ) → begins_by_digit bytes ≡ true → begins_by_letter bytes ≡ false
+digits-no_word [] h = refl
+digits-no_word (b ∷ more) h = grind (arith, nat_tests)
 
 pub number-kind : (value : ℕ) → is_number value ≡ true → kind_of (decimal value) ≡ kind.Number
 number-kind value h =
     let bytes : List ℕ = decimal value in
     let digit = (decimal-is value (small value h)).first in
-    let no_letter = digit-no_letter bytes digit in
+    let no_letter = digits-no_word bytes digit in
     let free = false_from_ne_true (is_reserved_word bytes)
     (λ reserved. both_ways (begins_by_letter bytes) no_letter (reserved-begins bytes reserved)) in
     rw (free, no_letter, digit) refl

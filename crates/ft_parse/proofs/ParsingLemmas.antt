@@ -12,9 +12,10 @@ use Rattle.ft_parse.specs.Lexeme.{Lexeme, lexemes_of}
 use Rattle.ft_parse.specs.Language.{Plain, Step, lexemes}
 use Rattle.ft_parse.specs.Items.{set}
 use Rattle.ft_parse.specs.Parse.{AreLexemes, IsAhead, IsFault, IsFaultOf, Reads, ReadsSame, Spells, parts_of}
-use Rattle.ft_parse.specs.Same.{bare_parts}
+use Rattle.ft_tree.specs.Bare.{IsSameTree}
 use Rattle.ft_tree.specs.Canonical.{canonical}
-use Rattle.ft_parse.proofs.RoundTrip.{round-trip}
+use Rattle.ft_tree.specs.Tokens.{CanonicalTokens}
+use Rattle.ft_parse.proofs.RoundTrip.{bare_parts, round-trip}
 use Rattle.ft_parse.specs.Reading.{Outcome, Seen, Stops, seen}
 use Rattle.ft_parse.specs.ReadItems.{set_by}
 use Rattle.ft_parse.specs.declared.parts.Parts.{Parts}
@@ -98,6 +99,15 @@ module _ (text : List ℕ) (tokens : List Token) (are : IsTokens text tokens) wh
         let parts_same : parts ≡ parts_of tree = cc same in
         same-tree read tree (is ∙ parts_same)
 
+    -- two trees that the text spells are the same
+    pub read-only-tree : (tree other : Tree) → Spells text tree → Spells text other → tree ≡ other
+    read-only-tree tree other s t =
+        let (at, whole) = read-whole tree s in
+        let (end, others) = read-whole other t in
+        let same = ap (λ (o : Outcome Parts). o.0) (sym whole ∙ others) in
+        let parts_same : parts_of tree ≡ parts_of other = cc same in
+        same-tree tree other parts_same
+
     pub read-unless : (stop : Stop) (left : Seen) (f : ParseFault) (tree : Tree) → Stops stop left (set_by (seen 0 ls)) → IsFaultOf stop left.rest f → Spells text tree → Reads (Err f) tree
     read-unless Syntax left f tree e is s =
         let (at, whole) = read-whole tree s in
@@ -110,25 +120,25 @@ module _ (text : List ℕ) (tokens : List Token) (are : IsTokens text tokens) wh
     read-unless NoMemory left f tree e is s = subst (λ (g : ParseFault). Reads (Err g) tree) (sym is) tt
 
     -- the canonical text of a tree is read as that tree, but for places
-    pub read-same : (parts : Parts) (left : Seen) (read tree : Tree) → set_by (seen 0 ls) ≡ (Ok parts, left) → parts_of read ≡ parts → text ≡ canonical tree
-        → bare_parts (parts_of read) ≡ bare_parts (parts_of tree)
-    read-same parts left read tree e is canonical_is =
-        let (steps, written, are_lexemes, grammar, plain, same) = round-trip tree in
+    pub read-same : CanonicalTokens → (parts : Parts) (left : Seen) (read tree : Tree) → set_by (seen 0 ls) ≡ (Ok parts, left) → parts_of read ≡ parts → text ≡ canonical tree
+        → IsSameTree read tree
+    read-same law parts left read tree e is canonical_is =
+        let (steps, written, are_lexemes, grammar, plain, same) = round-trip law tree in
         let (at, whole) = parts-whole steps written (subst (λ (t : List ℕ). AreLexemes t (lexemes steps)) (sym canonical_is) are_lexemes) grammar plain in
         let answers = ap (λ (o : Outcome Parts). o.0) (sym e ∙ whole) in
         let parts_same : parts ≡ written = cc answers in
         ap bare_parts (is ∙ parts_same) ∙ same
 
     -- nothing stops the reading of a canonical text
-    no-stop : (stop : Stop) (left : Seen) (tree : Tree) → set_by (seen 0 ls) ≡ (Err stop, left) → text ≡ canonical tree → ⊥
-    no-stop stop left tree e canonical_is =
-        let (steps, written, are_lexemes, grammar, plain, same) = round-trip tree in
+    no-stop : CanonicalTokens → (stop : Stop) (left : Seen) (tree : Tree) → set_by (seen 0 ls) ≡ (Err stop, left) → text ≡ canonical tree → ⊥
+    no-stop law stop left tree e canonical_is =
+        let (steps, written, are_lexemes, grammar, plain, same) = round-trip law tree in
         let (at, whole) = parts-whole steps written (subst (λ (t : List ℕ). AreLexemes t (lexemes steps)) (sym canonical_is) are_lexemes) grammar plain in
         let answers = ap (λ (o : Outcome Parts). o.0) (sym e ∙ whole) in
         cc answers
 
-    pub same-unless : (stop : Stop) (left : Seen) (f : ParseFault) (tree : Tree) → Stops stop left (set_by (seen 0 ls)) → IsFaultOf stop left.rest f → text ≡ canonical tree
+    pub same-unless : CanonicalTokens → (stop : Stop) (left : Seen) (f : ParseFault) (tree : Tree) → Stops stop left (set_by (seen 0 ls)) → IsFaultOf stop left.rest f → text ≡ canonical tree
         → ReadsSame (Err f) tree
-    same-unless Syntax left f tree e is canonical_is = absurd (no-stop Syntax left tree e canonical_is)
-    same-unless (Limit pass) left f tree e is canonical_is = absurd (no-stop (Limit pass) left tree e canonical_is)
-    same-unless NoMemory left f tree e is canonical_is = subst (λ (g : ParseFault). ReadsSame (Err g) tree) (sym is) tt
+    same-unless law Syntax left f tree e is canonical_is = absurd (no-stop law Syntax left tree e canonical_is)
+    same-unless law (Limit pass) left f tree e is canonical_is = absurd (no-stop law (Limit pass) left tree e canonical_is)
+    same-unless law NoMemory left f tree e is canonical_is = subst (λ (g : ParseFault). ReadsSame (Err g) tree) (sym is) tt

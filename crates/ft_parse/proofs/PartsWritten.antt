@@ -8,7 +8,7 @@ use Rattle.std.proofs.lemmas.List.Folds.{list_all-append}
 use native.Mathlib.Omega.{arith}
 use Rattle.ft_base.specs.declared.place.Place.{Place}
 use Rattle.ft_lex.specs.declared.token.TokenKind.TheVariants as token_kind
-use Rattle.ft_lex.specs.Words.{is_reserved_word, reserved_words}
+use Rattle.ft_base.specs.Names.{is_name, is_reserved_word, reserved_words}
 use Rattle.ft_tree.specs.declared.expr.Expr.{Expr}
 use Rattle.ft_tree.specs.declared.item.Word.{Word}
 use Rattle.ft_tree.specs.declared.item.Plain.{Plain}
@@ -17,7 +17,7 @@ use Rattle.ft_tree.specs.declared.item.Bound.{Bound}
 use Rattle.ft_tree.specs.declared.item.Kind.{Kind}
 use Rattle.ft_tree.specs.declared.item.Kind.TheVariants as kind
 use Rattle.ft_tree.specs.Expression.{expr_pieces, truth_word}
-use Rattle.ft_tree.specs.Limits.{are_entries, is_bound, is_count, is_expr, is_init, is_init_value, is_kind, is_name, is_number, is_plain, is_word}
+use Rattle.ft_tree.specs.Limits.{are_entries, is_bound, is_count, is_expr, is_init, is_init_value, is_kind, is_number, is_plain, is_word}
 use Rattle.ft_tree.specs.Line
 use Rattle.ft_tree.specs.Line.{Line, Piece}
 use Rattle.ft_tree.specs.Lines.{bound_pieces, exprs_pieces, kind_pieces, names_pieces, plain_text, sign_pieces, word_pieces}
@@ -26,7 +26,7 @@ use Rattle.ft_parse.specs.Lexeme.{as_name}
 use Rattle.ft_parse.specs.Language.{Language, either, no_pass, nothing, token, ◌▷◌}
 use Rattle.ft_parse.specs.Limit.{counted, is_full}
 use Rattle.ft_parse.specs.Items
-use Rattle.ft_parse.specs.Same.{bare_bound, bare_expr, bare_kind, bare_word, start}
+use Rattle.ft_tree.specs.Bare.{bare_bound, bare_expr, bare_kind, bare_word, start}
 use Rattle.ft_parse.specs.declared.stop.LimitWord.{LimitWord}
 use Rattle.ft_parse.proofs.ExprWritten.{Same, expr-written}
 use Rattle.ft_parse.proofs.Marks.{mark, name-kind, name-own, number-kind, number-own, reads-sign, reads-word, value-back}

@@ -8,13 +8,13 @@ use Rattle.ft_base.specs.declared.place.Place.{Place}
 use Rattle.ft_lex.specs.declared.token.Token.{Token}
 use Rattle.ft_lex.specs.declared.token.TokenKind.{TokenKind}
 use Rattle.ft_lex.specs.declared.token.TokenKind.TheVariants as kind
-use Rattle.ft_lex.specs.Bytes.{is_letter, is_name_byte}
+use Rattle.ft_base.specs.Names.{begins_by_letter, is_letter, is_name, is_name_byte, is_reserved_word}
 use Rattle.ft_lex.specs.Tokens.{AreTokensFrom, IsNameShape, IsShape, is_last}
-use Rattle.ft_lex.specs.Words.{is_reserved_word}
 use Rattle.ft_tree.specs.declared.item.Number.{Number}
 use Rattle.ft_tree.specs.declared.item.Word.{Word}
-use Rattle.ft_tree.specs.Limits.{begins_by_letter, is_name, is_number}
-use Rattle.ft_parse.specs.Lexeme.{Lexeme, as_name, as_number, decimal_value, lexemes_of}
+use Rattle.ft_tree.specs.Limits.{is_number}
+use Rattle.ft_base.specs.Digits.{decimal_value}
+use Rattle.ft_parse.specs.Lexeme.{Lexeme, as_name, as_number, lexemes_of}
 use Rattle.ft_parse.specs.Language.{Passes, Plain, Step, lexemes}
 use Rattle.ft_parse.specs.Limit.{first_of, is_great_number, is_long_name, is_name_kind, is_number_kind, own_pass, where_so}
 use Rattle.ft_parse.specs.Expressions.{or_else}

@@ -8,31 +8,31 @@ use Rattle.std.proofs.lemmas.List.Concat.{flat_map-cons}
 use Rattle.std.proofs.lemmas.List.Sums.{sum_by-append, sum_by-cons}
 use native.Mathlib.Omega.{arith}
 use Rattle.ft_lex.specs.declared.token.TokenKind.TheVariants as token_kind
-use Rattle.ft_lex.specs.Words.{is_reserved_word, reserved_words}
+use Rattle.ft_base.specs.Names.{is_reserved_word, reserved_words}
 use Rattle.ft_tree.specs.declared.item.Item.{Item}
 use Rattle.ft_tree.specs.declared.item.Item.TheVariants as item
 use Rattle.ft_tree.specs.declared.item.Number.{Number}
 use Rattle.ft_tree.specs.declared.tree.Tree.{Tree}
-use Rattle.ft_tree.specs.Canonical.{canonical, tree_lines}
+use Rattle.ft_tree.specs.Canonical.{canonical}
 use Rattle.ft_tree.specs.Limits.{IsSet, Sort, constants, types, variables, memories, tables, clauses, blocks, facts_of, is_item, is_number, is_option, is_same_sort, limit_of, sort_of}
 use Rattle.ft_tree.specs.Line
-use Rattle.ft_tree.specs.Line.{Line, line_bytes}
+use Rattle.ft_tree.specs.Line.{Line}
 use Rattle.ft_tree.specs.Lines.{item_lines, one_line, option_lines, period_pieces, set_lines, set_pieces}
-use Rattle.ft_tree.specs.Tokens.{CanonicalTokens, Shape, kind_of, piece_shape}
-use Rattle.ft_tree.proofs.LineLemmas.{made-lines}
-use Rattle.ft_tree.proofs.MadeLemmas.{read-made}
-use Rattle.ft_tree.proofs.TreeLemmas.{set-sound}
+use Rattle.ft_tree.specs.Tokens.{CanonicalTokens, Shape, kind_of}
 use Rattle.ft_parse.specs.Lexeme.{Lexeme, lexeme_of, lexemes_of}
 use Rattle.ft_parse.specs.Language.{Plain, Step, lexemes, nothing, repeated, ◌▷◌}
 use Rattle.ft_parse.specs.Limit.{is_full}
 use Rattle.ft_parse.specs.Items
 use Rattle.ft_parse.specs.Items.{set}
 use Rattle.ft_parse.specs.Parse.{AreLexemes, parts_of}
-use Rattle.ft_parse.specs.Same.{bare_fact, bare_item, bare_option, bare_parts, start}
+use Rattle.ft_tree.specs.Bare.{BareSet, bare_fact, bare_item, bare_option, bare_set, start}
 use Rattle.ft_parse.specs.declared.parts.Parts.{Parts}
 use Rattle.ft_parse.proofs.ItemsWritten.{item-written, line_shapes, lines-append, lines-none, one-line}
 use Rattle.ft_parse.proofs.PartsWritten.{a-name, a-number, more-same, one-of, sh, skip-sign, skip-word}
 use Rattle.ft_parse.proofs.Writes.{Writes, and_then, left, made, many, next, none, one, right, shape, shaped, shapes}
+
+abbrev pub bare_parts : Parts → BareSet
+bare_parts parts = bare_set parts.name parts.period parts.splits parts.depth parts.items
 
 -- what the limits count is the same of bare items
 bare-sort : (x : Item) → sort_of (bare_item x) ≡ sort_of x
@@ -177,25 +177,12 @@ set-written name period splits depth items h =
     none (λ i. record { name = text i; period = record { value = same i; place = start }; splits = same_splits i; depth = same_depth i; items = same_items i })))))))))))))
 
 -- by the law of canonical tokens
-pub from-tokens : CanonicalTokens → (tree : Tree) → (steps : List Step) × (parts : Parts)
+pub round-trip : CanonicalTokens → (tree : Tree) → (steps : List Step) × (parts : Parts)
     × AreLexemes (canonical tree) (lexemes steps) × set 0 steps parts × Plain steps × (bare_parts parts ≡ bare_parts (parts_of tree))
 unfolding line_shapes end-shape
-from-tokens law tree =
+round-trip law tree =
     let (tokens, are, same_shapes) = law tree in
     let ls : List Lexeme = lexemes_of (canonical tree) tokens in
     let written = set-written tree.name tree.period tree.splits tree.depth tree.items tree.lawful in
     let spelt = written.all ls (map-map shape (lexeme_of (canonical tree)) tokens ∙ same_shapes) in
     (spelt.steps, spelt.value, (tokens, are, sym spelt.same), spelt.means, spelt.plain, spelt.good)
-
--- the law holds: each piece of a lawful tree's lines is read as it was written
-canonical-tokens : CanonicalTokens
-canonical-tokens tree =
-    let lines = tree_lines tree in
-    let sound = set-sound tree.name tree.period tree.splits tree.depth tree.items tree.lawful in
-    let pieces = flat_map (λ (line : Line). line.pieces) lines in
-    let read = read-made (flat_map line_bytes lines) (map piece_shape pieces) (made-lines lines sound.all) in
-    (read.tokens, read.are, read.shaped)
-
-pub round-trip : (tree : Tree) → (steps : List Step) × (parts : Parts) × AreLexemes (canonical tree) (lexemes steps)
-    × set 0 steps parts × Plain steps × (bare_parts parts ≡ bare_parts (parts_of tree))
-round-trip = from-tokens canonical-tokens

@@ -8,7 +8,7 @@ use Rattle.ft_tree.specs.declared.expr.Expr.TheVariants.{Num, Name, Truth, Prev,
 use Rattle.ft_tree.specs.declared.level.Level.TheVariants.{Negation, Unary, Atom}
 use Rattle.ft_tree.specs.Level.{left_level, op_level, right_level}
 use Rattle.ft_tree.specs.Limits.{Nested, nested, nested_layer, nests, operand_depth}
-use Rattle.ft_parse.specs.Same.{bare_expr, bare_layer, start}
+use Rattle.ft_tree.specs.Bare.{bare_expr, bare_layer, start}
 
 of_bare : (expr : Expr) (a_layer : Expr-F Expr) → roll-Expr a_layer ≡ expr
     → bare_expr expr ≡ bare_layer (map-Expr Expr Expr bare_expr a_layer)

@@ -1,7 +1,8 @@
 -- What the grammar sees of a token.
-use Rattle.std.specs.Prelude.{ℕ, ◌+◌, ◌*◌, ◌-◌, ◌&&◌, List, map, fold, Option, Some, None, if◌then◌else◌}
+use Rattle.std.specs.Prelude.{ℕ, ◌&&◌, List, map, Option, Some, None, if◌then◌else◌}
 use Rattle.std.specs.Str.{bytes_eq}
 use Rattle.ft_base.specs.declared.place.Place.{Place}
+use Rattle.ft_base.specs.Digits.{decimal_value}
 use Rattle.ft_lex.specs.declared.token.TokenKind.{TokenKind}
 use Rattle.ft_lex.specs.declared.token.TokenKind.TheVariants as kind
 use Rattle.ft_lex.specs.declared.token.Token.{Token}
@@ -20,10 +21,6 @@ lexeme_of text token = record { kind = token.kind; text = token_text text token;
 
 abbrev pub lexemes_of : List ℕ → List Token → List Lexeme
 lexemes_of text tokens = map (lexeme_of text) tokens
-
--- the value of decimal digits
-abbrev pub decimal_value : List ℕ → ℕ
-decimal_value digits = fold (λ value digit. value * 10 + (digit - 48)) 0 digits
 
 -- the place of this reserved word
 abbrev pub as_word : List ℕ → Lexeme → Option Place

@@ -3,6 +3,7 @@ pub mod Cursor
 pub mod Expressions
 pub mod Items
 pub mod Language
+pub mod Laws
 pub mod Levels
 pub mod Lexeme
 pub mod Limit
@@ -11,4 +12,3 @@ pub mod ReadExpressions
 pub mod ReadItems
 pub mod Reading
 pub mod Steps
-pub mod Same

@@ -6,7 +6,8 @@ use Rattle.ft_lex.specs.declared.token.TokenKind.{TokenKind}
 use Rattle.ft_lex.specs.declared.token.TokenKind.TheVariants as kind
 use Rattle.ft_tree.specs.declared.item.Item.{Item}
 use Rattle.ft_tree.specs.Limits.{Sort, facts_of, is_same_sort, limit_of, sort_of}
-use Rattle.ft_parse.specs.Lexeme.{Lexeme, decimal_value}
+use Rattle.ft_base.specs.Digits.{decimal_value}
+use Rattle.ft_parse.specs.Lexeme.{Lexeme}
 use Rattle.ft_parse.specs.Language.{Passes}
 use Rattle.ft_parse.specs.declared.parts.Entry.{Entry}
 use Rattle.ft_parse.specs.declared.stop.LimitWord.{LimitWord}

@@ -4,10 +4,10 @@ use Rattle.ft_base.specs.declared.place.Place.{Place}
 use Rattle.ft_lex.specs.declared.token.Token.{Token}
 use Rattle.ft_lex.specs.Tokens.{IsTokens}
 use Rattle.ft_tree.specs.declared.tree.Tree.{Tree}
+use Rattle.ft_tree.specs.Bare.{IsSameTree}
 use Rattle.ft_parse.specs.Lexeme.{Lexeme, lexemes_of}
 use Rattle.ft_parse.specs.Language.{Plain, Step, lexemes, step}
 use Rattle.ft_parse.specs.Items.{set}
-use Rattle.ft_parse.specs.Same.{bare_parts}
 use Rattle.ft_parse.specs.declared.parts.Parts.{Parts}
 use Rattle.ft_parse.specs.declared.stop.ParseFault.{ParseFault}
 use Rattle.ft_parse.specs.declared.stop.ParseFault.TheVariants.{Syntax, Limit, NoMemory}
@@ -72,7 +72,7 @@ Reads (Err NoMemory) tree = Unit {0}
 
 -- where the text is the canonical one of this tree: that tree is read, but for places, and only want of memory is in the way of that
 abbrev pub ReadsSame : Result Tree ParseFault → Tree → Type 0
-ReadsSame (Ok read) tree = bare_parts (parts_of read) ≡ bare_parts (parts_of tree)
+ReadsSame (Ok read) tree = IsSameTree read tree
 ReadsSame (Err (Syntax place)) tree = ⊥
 ReadsSame (Err (Limit which place)) tree = ⊥
 ReadsSame (Err NoMemory) tree = Unit {0}

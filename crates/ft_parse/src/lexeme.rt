@@ -1,6 +1,7 @@
 ghost use Rattle.std.specs.Prelude.{◌≡◌, ◌≤◌, min, IfOk};
 ghost use Rattle.ft_parse.specs.Cursor.{ReadsAs};
-ghost use Rattle.ft_parse.specs.Lexeme.{as_end, as_name, as_number, as_sign, as_word, decimal_value};
+ghost use Rattle.ft_base.specs.Digits.{decimal_value};
+ghost use Rattle.ft_parse.specs.Lexeme.{as_end, as_name, as_number, as_sign, as_word};
 ghost use Rattle.ft_parse.specs.Limit.{own_pass};
 ghost use Rattle.ft_parse.specs.Reading.{can};
 

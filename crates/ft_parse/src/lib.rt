@@ -8,6 +8,7 @@ mod counts;
 mod cursor;
 mod expressions;
 mod items;
+mod law;
 mod lexeme;
 mod limits;
 mod lists;
@@ -22,5 +23,6 @@ mod tables;
 mod variables;
 mod words;
 
+pub use law::{fault_or_tree, one_fault, one_tree};
 pub use parsing::parse;
 pub use stop::{LimitWord, ParseFault};

@@ -12,7 +12,7 @@ use crate::parts::Parts;
 use crate::sets::set;
 use crate::stop::{ParseFault, Stop};
 use ft_lex::{Token, tokens};
-use ft_tree::Tree;
+use ft_tree::{Tree, canonical_tokens};
 use std::alloc::Global;
 
 /// The tree of parts that meet the limits.
@@ -59,6 +59,7 @@ fn from_tokens(alloc: Global, text: &[u8], tokens: &[Token]) -> Result<Tree, Par
     ensures same { (tree : Tree) → text.now ≡ canonical tree → ReadsSame result tree }
     ensures fault { IfErr result (IsFault text.now) }
 {
+    canonical_tokens();
     let mut cursor = Cursor::new(text, tokens);
     match set(alloc, &mut cursor) {
         Ok(parts) => Ok(tree(parts)),
@@ -82,6 +83,3 @@ pub fn parse(alloc: Global, text: &[u8]) -> Result<Tree, ParseFault>
     let tokens = tokens(alloc, text)?;
     from_tokens(alloc, text, tokens.as_slice())
 }
-
-#[cfg(test)]
-mod tests;

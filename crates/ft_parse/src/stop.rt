@@ -38,14 +38,14 @@ pub enum LimitWord {
 }
 
 /// A limit that is passed, and the place that is told for it.
-#[derive(Clone, Copy, Debug, PartialEq, Eq, Drop)]
+#[derive(Clone, Copy, PartialEq, Eq, Drop)]
 pub struct Pass {
     pub which: LimitWord,
     pub place: Place,
 }
 
 /// Why reading stops at a token.
-#[derive(Clone, Copy, Debug, PartialEq, Eq, Drop)]
+#[derive(Clone, Copy, PartialEq, Eq, Drop)]
 pub enum Stop {
     /// No text goes on with it.
     Syntax,
@@ -67,7 +67,7 @@ impl From<NoMemory> for Stop {
 }
 
 /// Why a text isn't read.
-#[derive(Clone, Copy, Debug, PartialEq, Eq, Drop)]
+#[derive(Clone, Copy, PartialEq, Eq, Drop)]
 pub enum ParseFault {
     /// The tokens before the place begin some set's text, and with the token at the place, or the end, they don't.
     Syntax { place: Place },

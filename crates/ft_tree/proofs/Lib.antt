@@ -1,5 +1,4 @@
 pub mod ExprLemmas
-pub mod ExprParts
 pub mod LayoutLemmas
 pub mod LineLemmas
 pub mod MadeLemmas

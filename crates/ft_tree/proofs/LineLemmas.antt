@@ -5,16 +5,17 @@ use Rattle.std.proofs.lemmas.Bool.{and_parts}
 use Rattle.std.proofs.lemmas.List.{map-append}
 use Rattle.std.proofs.lemmas.List.Concat.{flat_map-cons}
 use Rattle.ft_lex.specs.Bytes.{is_blank}
+use Rattle.ft_lex.specs.Reading.{SignsLongest}
 use Rattle.ft_tree.specs.Line.{Line, Piece, line_bytes, line_text}
 use Rattle.ft_tree.specs.Tokens.{Shape, piece_shape}
 use Rattle.ft_tree.proofs.MadeLemmas.{IsMade, made-after_blanks}
 use Rattle.ft_tree.proofs.PieceLemmas.{is_sound, made-after}
 
-made-line : (pieces : List Piece) (rest : List ℕ) (shapes : List Shape) → list_all is_sound pieces ≡ true → IsMade rest shapes
+made-line : SignsLongest → (pieces : List Piece) (rest : List ℕ) (shapes : List Shape) → list_all is_sound pieces ≡ true → IsMade rest shapes
     → IsMade (line_text pieces ++ (10 ∷ rest)) (map piece_shape pieces ++ shapes)
-made-line [] rest shapes h made = made-after_blanks shapes (10 ∷ []) rest refl made
-made-line (first ∷ more) rest shapes h made =
-    made-after first more (10 ∷ rest) shapes h refl (made-after_blanks shapes (10 ∷ []) rest refl made)
+made-line law [] rest shapes h made = made-after_blanks shapes (10 ∷ []) rest refl made
+made-line law (first ∷ more) rest shapes h made =
+    made-after law first more (10 ∷ rest) shapes h refl (made-after_blanks shapes (10 ∷ []) rest refl made)
 
 indent-blank : (is_inner : Bool) → list_all is_blank (cond is_inner (codes "  ") []) ≡ true
 indent-blank true = refl
@@ -40,14 +41,14 @@ line-shapes line more =
     sym (map-append piece_shape line.pieces (flat_map line_pieces more))
     ∙ ap (map piece_shape) (sym (flat_map-cons line_pieces line more))
 
-pub made-lines : (lines : List Line) → list_all is_sound_line lines ≡ true
+pub made-lines : SignsLongest → (lines : List Line) → list_all is_sound_line lines ≡ true
     → IsMade (flat_map line_bytes lines) (map piece_shape (flat_map (λ line. line.pieces) lines))
-made-lines [] h = refl
-made-lines (line ∷ more) h =
+made-lines law [] h = refl
+made-lines law (line ∷ more) h =
     let (sound, sounds) = and_parts (is_sound_line line) (list_all is_sound_line more) h in
     let rest : List ℕ = flat_map line_bytes more in
     let indent : List ℕ = cond line.is_inner (codes "  ") [] in
-    let whole = made-line line.pieces rest _ sound (made-lines more sounds) in
+    let whole = made-line law line.pieces rest _ sound (made-lines law more sounds) in
     let made = made-after_blanks _ indent _ (indent-blank line.is_inner) whole in
     subst (λ (l : List ℕ). IsMade l (map piece_shape (flat_map line_pieces (line ∷ more))))
     (line-parts line rest ∙ sym (flat_map-cons line_bytes line more))

@@ -7,19 +7,21 @@ use Rattle.std.proofs.lemmas.Bool.{and_parts, cases_Bool, cases_lt, leb-true, fa
 use Rattle.std.proofs.lemmas.Bool.Decides.{nat_tests}
 use Rattle.std.proofs.lemmas.List.{append-nil, take-take}
 use Rattle.std.proofs.lemmas.List.Elements.{All-contains}
+use Rattle.std.proofs.lemmas.List.Sums.{AllPass-from_list_all}
 use Rattle.std.proofs.lemmas.Map.Views.{Contains-from_any}
 use Rattle.std.proofs.lemmas.Slice.Eq.{bytes_eq-Decides}
 use Rattle.std.proofs.Math.Seq.{take-append_seam}
 use Rattle.ft_lex.specs.declared.token.TokenKind.{TokenKind}
 use Rattle.ft_lex.specs.declared.token.TokenKind.TheVariants.{Name, Number, Word, Sign}
-use Rattle.ft_lex.specs.Bytes.{begins_space, is_blank, is_digit, is_letter, is_name_byte}
-use Rattle.ft_lex.specs.Reading.{first_len, sign_len}
+use Rattle.ft_base.specs.Digits.{begins_by_digit, is_digit}
+use Rattle.ft_base.specs.Names.{begins_by_letter, is_letter, is_name_byte, is_reserved_word, reserved_words}
+use Rattle.ft_lex.specs.Bytes.{begins_space, is_blank}
+use Rattle.ft_lex.specs.Reading.{SignsLongest, first_len, sign_len}
 use Rattle.ft_lex.specs.Tokens.{Begins, IsShape, is_last}
-use Rattle.ft_lex.specs.Words.{is_reserved_word, reserved_words, signs}
-use Rattle.ft_lex.proofs.SignLemmas.{all-tested, sign_len-longest}
-use Rattle.ft_tree.specs.Limits.{begins_by_letter}
+use Rattle.ft_lex.specs.Signs.{signs}
+use Rattle.ft_base.specs.Reserved.{found-passes, reserved-begins}
 use Rattle.ft_tree.specs.Line.{Piece, token, minus, gap, hugs_after, hugs_before, is_history, is_open, piece_text, text_after}
-use Rattle.ft_tree.specs.Tokens.{Shape, begins_by_digit, kind_of, piece_shape}
+use Rattle.ft_tree.specs.Tokens.{Shape, kind_of, piece_shape}
 use Rattle.ft_tree.proofs.MadeLemmas.{IsMade, Stands, made-after_blanks, made-more}
 
 -- a name or a reserved word
@@ -72,24 +74,6 @@ run-ends test (b ∷ bytes) rest h ends =
     let (first, later) = and_parts (test b) (list_all test bytes) h in
     rw first (omega (arith, run-ends test bytes rest later ends))
 
-same-bytes : (bytes other : List ℕ) → bytes_eq bytes other ≡ true → bytes ≡ other
-same-bytes bytes other h = (bytes_eq-Decides bytes other).0 h
-
--- what holds of each text of a table holds of one that is found in it
-found-passes : (test : List ℕ → Bool) (table : List (List ℕ)) (bytes : List ℕ) → list_all test table ≡ true
-    → list_any (bytes_eq bytes) table ≡ true → test bytes ≡ true
-found-passes test table bytes all found =
-    All-contains (λ (x : List ℕ). test x ≡ true) table bytes (all-tested test table all)
-    (Contains-from_any same-bytes bytes table found)
-
-reserved-letters : list_all begins_by_letter reserved_words ≡ true
-unfolding reserved_words
-reserved-letters = refl
-
-reserved-begins : (bytes : List ℕ) → is_reserved_word bytes ≡ true → begins_by_letter bytes ≡ true
-unfolding is_reserved_word
-reserved-begins bytes h = found-passes begins_by_letter reserved_words bytes reserved-letters h
-
 as_word : (bytes : List ℕ) → is_reserved_word bytes ≡ true → kind_of bytes ≡ Word
 as_word bytes h = rw h refl
 
@@ -139,15 +123,12 @@ word-stands (b ∷ more) rest h ends =
       ];
     }
 
-digit-no_letter : (b : ℕ) → is_digit b ≡ true → is_letter b ≡ false
-digit-no_letter b h = grind (arith, nat_tests)
-
 digits-stand : (bytes rest : List ℕ) → is_digits bytes ≡ true → Begins ends_token rest → Stands (kind_of bytes, bytes) rest
 digits-stand [] rest h ends = absurd (true≢false (sym h))
 digits-stand (b ∷ more) rest h ends =
     let bytes : List ℕ = b ∷ more in
     let (digit, digits) = and_parts (is_digit b) (list_all is_digit bytes) h in
-    let no_letter = digit-no_letter b digit in
+    let no_letter : is_letter b ≡ false = grind (arith, nat_tests, digit) in
     let free = false_from_ne_true (is_reserved_word bytes)
     (λ reserved. both_ways (is_letter b) no_letter (reserved-begins bytes reserved)) in
     let number = as_number bytes free no_letter digit in
@@ -192,7 +173,7 @@ sign-stands bytes rest h longest =
       no_space = no_space-before bytes rest apart;
       shaped = subst (λ (k : TokenKind). IsShape k (bytes ++ rest) (length bytes)) (sym sign) (record {
         sign = bytes;
-        listed = Contains-from_any same-bytes bytes signs h;
+        listed = Contains-from_any (λ x y e. (bytes_eq-Decides x y).0 e) bytes signs h;
         here = take-append_seam bytes rest;
         all = refl;
         longest = longest;
@@ -211,7 +192,7 @@ alone-longest : (bytes rest : List ℕ) → is_alone bytes ≡ true → IsLonges
 alone-longest bytes rest alone other listed here = elim (cases_lt (length bytes) (length other)) [
   | inr short ↦ short
   | inl long ↦
-      let all = all-tested (is_no_longer bytes) signs alone in
+      let all = AllPass-from_list_all (is_no_longer bytes) signs alone in
       let passes = All-contains (λ (x : List ℕ). is_no_longer bytes x ≡ true) signs other all listed in
       let begins : take (length bytes) other ≡ bytes = ap (take (length bytes)) (sym here)
       ∙ take-take (length bytes) (length other) (bytes ++ rest) (omega arith)
@@ -232,13 +213,13 @@ unfolding signs first_len
 greater-longest [] ends = absurd ends
 greater-longest (b ∷ rest) ends = rw (ends-equal b ends) refl
 
-longest-at : (bytes rest : List ℕ) → sign_len (bytes ++ rest) ≡ length bytes → IsLongestOf bytes rest
-longest-at bytes rest len other listed here = omega (arith, len, sign_len-longest (bytes ++ rest) other listed here)
+longest-at : SignsLongest → (bytes rest : List ℕ) → sign_len (bytes ++ rest) ≡ length bytes → IsLongestOf bytes rest
+longest-at law bytes rest len other listed here = omega (arith, len, law (bytes ++ rest) other listed here)
 
-longest-as : (bytes sign rest : List ℕ) → bytes_eq bytes sign ≡ true → sign_len (sign ++ rest) ≡ length sign
+longest-as : SignsLongest → (bytes sign rest : List ℕ) → bytes_eq bytes sign ≡ true → sign_len (sign ++ rest) ≡ length sign
     → IsLongestOf bytes rest
-longest-as bytes sign rest same len =
-    subst (λ (x : List ℕ). IsLongestOf x rest) (sym (same-bytes bytes sign same)) (longest-at sign rest len)
+longest-as law bytes sign rest same len =
+    subst (λ (x : List ℕ). IsLongestOf x rest) (sym ((bytes_eq-Decides bytes sign).0 same)) (longest-at law sign rest len)
 
 abbrev is_angle : List ℕ → Bool
 is_angle bytes = bytes_eq bytes (codes "<") || bytes_eq bytes (codes ">")
@@ -249,24 +230,24 @@ unfolding signs
 signs-alone = refl
 
 -- a byte that lengthens no token lengthens no sign
-sign-longest : (bytes rest : List ℕ) → is_sign_text bytes ≡ true → Begins ends_token rest → IsLongestOf bytes rest
-sign-longest bytes rest h ends =
+sign-longest : SignsLongest → (bytes rest : List ℕ) → is_sign_text bytes ≡ true → Begins ends_token rest → IsLongestOf bytes rest
+sign-longest law bytes rest h ends =
     elim (or_cases (is_alone bytes) (is_angle bytes) (found-passes (λ x. is_alone x || is_angle x) signs bytes signs-alone h)) [
       | inl alone ↦ alone-longest bytes rest alone
       | inr angle ↦ elim (or_cases (bytes_eq bytes (codes "<")) _ angle) [
-        | inl less ↦ longest-as bytes (codes "<") rest less (less-longest rest ends)
-        | inr greater ↦ longest-as bytes (codes ">") rest greater (greater-longest rest ends)
+        | inl less ↦ longest-as law bytes (codes "<") rest less (less-longest rest ends)
+        | inr greater ↦ longest-as law bytes (codes ">") rest greater (greater-longest rest ends)
       ]
     ]
 
 -- before a byte that lengthens no token
-token-stands : (bytes rest : List ℕ) → is_token bytes ≡ true → Begins ends_token rest → Stands (kind_of bytes, bytes) rest
+token-stands : SignsLongest → (bytes rest : List ℕ) → is_token bytes ≡ true → Begins ends_token rest → Stands (kind_of bytes, bytes) rest
 unfolding is_token
-token-stands bytes rest h ends = elim (or_cases (is_word_text bytes) _ h) [
+token-stands law bytes rest h ends = elim (or_cases (is_word_text bytes) _ h) [
   | inl word ↦ word-stands bytes rest word ends
   | inr other ↦ elim (or_cases (is_digits bytes) _ other) [
     | inl digits ↦ digits-stand bytes rest digits ends
-    | inr sign ↦ sign-stands bytes rest sign (sign-longest bytes rest sign ends)
+    | inr sign ↦ sign-stands bytes rest sign (sign-longest law bytes rest sign ends)
   ]
 ]
 
@@ -296,8 +277,8 @@ hugging-closed : (piece : Piece) → hugs_after piece ≡ true → is_closed (pi
 unfolding hugs_after
 hugging-closed minus h = minus-closed
 hugging-closed (token bytes) h = elim (or_cases (bytes_eq bytes (codes "(")) _ h) [
-  | inl is ↦ subst (λ (x : List ℕ). is_closed x ≡ true) (sym (same-bytes bytes (codes "(") is)) open-closed
-  | inr is ↦ subst (λ (x : List ℕ). is_closed x ≡ true) (sym (same-bytes bytes (codes "..") is)) dots-closed
+  | inl is ↦ subst (λ (x : List ℕ). is_closed x ≡ true) (sym ((bytes_eq-Decides bytes (codes "(")).0 is)) open-closed
+  | inr is ↦ subst (λ (x : List ℕ). is_closed x ≡ true) (sym ((bytes_eq-Decides bytes (codes "..")).0 is)) dots-closed
 ]
 
 sound-token : (bytes : List ℕ) → is_sound (token bytes) ≡ is_token bytes
@@ -305,12 +286,12 @@ unfolding is_sound
 sound-token bytes = refl
 
 -- a token that no space stands after, or before a byte that lengthens no token
-piece-stands : (piece : Piece) (rest : List ℕ) → is_sound piece ≡ true → (hugs_after piece ≡ false → Begins ends_token rest)
+piece-stands : SignsLongest → (piece : Piece) (rest : List ℕ) → is_sound piece ≡ true → (hugs_after piece ≡ false → Begins ends_token rest)
     → Stands (piece_shape piece) rest
-piece-stands minus rest h ends = closed-stands (codes "-") rest minus-closed
-piece-stands (token bytes) rest h ends = elim (cases_Bool (hugs_after (token bytes))) [
+piece-stands law minus rest h ends = closed-stands (codes "-") rest minus-closed
+piece-stands law (token bytes) rest h ends = elim (cases_Bool (hugs_after (token bytes))) [
   | inl hugs ↦ closed-stands bytes rest (hugging-closed (token bytes) hugs)
-  | inr free ↦ token-stands bytes rest (sym (sound-token bytes) ∙ h) (ends free)
+  | inr free ↦ token-stands law bytes rest (sym (sound-token bytes) ∙ h) (ends free)
 ]
 
 -- the first byte lengthens no token
@@ -323,7 +304,7 @@ ends-begins [] rest h = absurd (true≢false (sym h))
 ends-begins (b ∷ more) rest h = h
 
 end-at : (bytes other : List ℕ) → begins_end other ≡ true → bytes_eq bytes other ≡ true → begins_end bytes ≡ true
-end-at bytes other h same = ap begins_end (same-bytes bytes other same) ∙ h
+end-at bytes other h same = ap begins_end ((bytes_eq-Decides bytes other).0 same) ∙ h
 
 -- what no space stands before
 hugged-ends : (piece : Piece) → hugs_before piece ≡ true → begins_end (piece_text piece) ≡ true
@@ -365,25 +346,25 @@ gap-blank before next = elim (cases_Bool (hugs_after before || hugs_before next 
 ]
 
 -- a token and those after it in its line are read as they were written
-pub made-after : (before : Piece) (pieces : List Piece) (rest : List ℕ) (shapes : List Shape)
+pub made-after : SignsLongest → (before : Piece) (pieces : List Piece) (rest : List ℕ) (shapes : List Shape)
     → list_all is_sound (before ∷ pieces) ≡ true → Begins ends_token rest → IsMade rest shapes
     → IsMade ((piece_text before ++ text_after before pieces) ++ rest) (map piece_shape (before ∷ pieces) ++ shapes)
-made-after before [] rest shapes h ends made =
+made-after law before [] rest shapes h ends made =
     let (sound, _) = and_parts (is_sound before) true h in
-    let stands = piece-stands before rest sound (λ _. ends) in
+    let stands = piece-stands law before rest sound (λ _. ends) in
     subst (λ (l : List ℕ). IsMade (l ++ rest) (piece_shape before ∷ shapes)) (sym (append-nil (piece_text before)))
     (made-more (piece_shape before) shapes rest stands (kind-goes_on (piece_text before)) made)
-made-after before (next ∷ more) rest shapes h ends made =
+made-after law before (next ∷ more) rest shapes h ends made =
     let (sound, sounds) = and_parts (is_sound before) (list_all is_sound (next ∷ more)) h in
     let later : List ℕ = piece_text next ++ text_after next more in
     let after : List ℕ = gap before next ++ (later ++ rest) in
     let tail : List Shape = map piece_shape (next ∷ more) ++ shapes in
     let parts = append_assoc (piece_text next) (text_after next more) rest in
-    let stands = piece-stands before after sound
+    let stands = piece-stands law before after sound
     (λ free. subst (λ (l : List ℕ). Begins ends_token (gap before next ++ l)) (sym parts)
     (gap-ends before next (text_after next more ++ rest) free)) in
     let made_later = made-after_blanks tail (gap before next) (later ++ rest) (gap-blank before next)
-    (made-after next more rest shapes sounds ends made) in
+    (made-after law next more rest shapes sounds ends made) in
     let whole : piece_text before ++ after ≡ (piece_text before ++ text_after before (next ∷ more)) ++ rest =
     ap (λ (l : List ℕ). piece_text before ++ l) (sym (append_assoc (gap before next) later rest))
     ∙ sym (append_assoc (piece_text before) (gap before next ++ later) rest) in

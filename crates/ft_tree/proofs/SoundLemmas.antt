@@ -1,14 +1,15 @@
 -- Each piece of an expression and of a part of a line is the text of one token.
 use Rattle.std.proofs.Common.{◌≡◌, ◌∙◌, sym, subst, refl, ℕ, ◌+◌, ◌%◌, ◌^◌, ◌<◌, List, [], ◌∷◌, ◌++◌, ◌&&◌, inl, inr, not, nat_le, Bool, true, false, codes, decimal, length, arith}
 use Rattle.std.specs.List.{flat_map, list_all}
-use Rattle.std.proofs.lemmas.Bool.{and_parts, and_from, cases_Bool, leb-true, or_left, or_right, true≢false}
+use Rattle.std.proofs.lemmas.Bool.{and_parts, and_from, cases_Bool, leb-true, or_left, or_right}
 use Rattle.std.proofs.lemmas.Bool.Decides.{nat_tests}
 use Rattle.std.proofs.lemmas.Fmt.{decimal_by_steps}
 use Rattle.std.proofs.lemmas.List.Concat.{flat_map-cons}
 use Rattle.std.proofs.lemmas.List.Folds.{list_all-append}
 use Rattle.ft_base.specs.declared.place.Place.{Place}
-use Rattle.ft_lex.specs.Bytes.{is_digit, is_name_byte}
-use Rattle.ft_lex.specs.Words.{is_reserved_word, signs}
+use Rattle.ft_base.specs.Digits.{begins_by_digit, begins-push, is_digit}
+use Rattle.ft_base.specs.Names.{begins_by_letter, is_name, is_name_byte, is_reserved_word}
+use Rattle.ft_lex.specs.Signs.{signs}
 use Rattle.ft_tree.specs.declared.expr.Op.{Op}
 use Rattle.ft_tree.specs.declared.expr.Op.TheVariants.{Or, And, Eq, Ne, Lt, Le, Gt, Ge, Add, Sub, Mul, Div}
 use Rattle.ft_tree.specs.declared.expr.Expr.{Expr}
@@ -17,12 +18,11 @@ use Rattle.ft_tree.specs.declared.level.Level.{Level}
 use Rattle.ft_tree.specs.declared.level.Level.TheVariants.{Negation, Unary}
 use Rattle.ft_tree.specs.Expression.{Spelled, expr_pieces, history, operand, spelled, truth_word}
 use Rattle.ft_tree.specs.Level.{is_looser, left_level, op_sign, right_level}
-use Rattle.ft_tree.specs.Limits.{begins_by_letter, is_lawful, is_name, is_number}
+use Rattle.ft_tree.specs.Limits.{is_lawful, is_number}
 use Rattle.ft_tree.specs.Line.{Piece, token, minus}
 use Rattle.ft_tree.specs.Lines.{listed}
-use Rattle.ft_tree.specs.Tokens.{begins_by_digit}
-use Rattle.ft_tree.proofs.ExprLemmas.{spelled-Num, spelled-Name, spelled-Truth, spelled-Prev, spelled-Age, spelled-Not, spelled-Neg, spelled-Two}
-use Rattle.ft_tree.proofs.ExprParts.{ExprInductive, expr_induction, lawful-Num, lawful-Name, lawful-Prev, lawful-Age, lawful-Not, lawful-Neg, lawful-Two}
+use Rattle.ft_tree.specs.ExprParts.{ExprInductive, expr_induction, lawful-Num, lawful-Name, lawful-Prev, lawful-Age, lawful-Not, lawful-Neg, lawful-Two}
+use Rattle.ft_tree.specs.ExprParts.{spelled-Num, spelled-Name, spelled-Truth, spelled-Prev, spelled-Age, spelled-Not, spelled-Neg, spelled-Two}
 use Rattle.ft_tree.proofs.PieceLemmas.{is_digits, is_sign_text, is_sound, is_token, is_word_text}
 
 -- a name is the text of a token
@@ -36,10 +36,6 @@ name-token name h =
 
 digit-is : (n : ℕ) → n < 10 → is_digit (48 + n) ≡ true
 digit-is n h = grind (arith, nat_tests)
-
-begins-push : (bytes : List ℕ) (b : ℕ) → begins_by_digit bytes ≡ true → begins_by_digit (bytes ++ b ∷ []) ≡ true
-begins-push [] b h = absurd (true≢false (sym h))
-begins-push (c ∷ more) b h = h
 
 digits-push : (bytes : List ℕ) (b : ℕ) → is_digits bytes ≡ true → is_digit b ≡ true → is_digits (bytes ++ b ∷ []) ≡ true
 digits-push bytes b h digit =

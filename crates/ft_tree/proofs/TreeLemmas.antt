@@ -4,7 +4,7 @@ use Rattle.std.specs.List.{flat_map, list_all}
 use Rattle.std.proofs.lemmas.Bool.{and_parts, and_from, true≢false}
 use Rattle.std.proofs.lemmas.List.Concat.{flat_map-cons}
 use Rattle.std.proofs.lemmas.List.Folds.{list_all-append}
-use Rattle.ft_lex.specs.Words.{signs}
+use Rattle.ft_lex.specs.Signs.{signs}
 use Rattle.ft_tree.specs.declared.expr.Expr.{Expr}
 use Rattle.ft_tree.specs.declared.item.Word.{Word}
 use Rattle.ft_tree.specs.declared.item.Number.{Number}
@@ -26,7 +26,8 @@ use Rattle.ft_tree.specs.declared.item.FactItem.TheVariants.{Shows, Goal}
 use Rattle.ft_tree.specs.declared.item.Item.{Item}
 use Rattle.ft_tree.specs.declared.item.Item.TheVariants.{Constant, RangeType, EnumType, Variable, Held, Hyst, Normal, Inverted, Vector, Nat, Block}
 use Rattle.ft_tree.specs.Expression.{expr_pieces, truth_word}
-use Rattle.ft_tree.specs.Limits.{IsSet, are_entries, are_listed, is_bound, is_count, is_expr, is_fact, is_hold, is_init, is_init_value, is_item, is_kind, is_lawful, is_name, is_number, is_option, is_plain, is_row, is_side, is_vrow, is_word, nested}
+use Rattle.ft_base.specs.Names.{is_name}
+use Rattle.ft_tree.specs.Limits.{IsSet, are_entries, are_listed, is_bound, is_count, is_expr, is_fact, is_hold, is_init, is_init_value, is_item, is_kind, is_lawful, is_number, is_option, is_plain, is_row, is_side, is_vrow, is_word, nested}
 use Rattle.ft_tree.specs.Line.{Line, Piece, outer, token}
 use Rattle.ft_tree.specs.Lines.{band_pieces, block_lines, body_lines, bound_pieces, brace_line, constant_pieces, ended, enum_type_pieces, exprs_line, exprs_pieces}
 use Rattle.ft_tree.specs.Lines.{fact_line, head_line, held_pieces, hyst_pieces, item_lines, kind_pieces, memory_head, moment_text, names_pieces, nat_pieces}

@@ -1,4 +1,6 @@
+pub mod Bare
 pub mod Canonical
+pub mod ExprParts
 pub mod Expression
 pub mod Level
 pub mod Limits

@@ -1,8 +1,7 @@
 -- What holds of every tree: names are names, the limits hold, and each part stands where it may.
-use Rattle.std.specs.Prelude.{ℕ, suc, ◌≤◌, ◌≡◌, ◌&&◌, max, not, nat_le, Bool, true, false, List, [], ◌∷◌, length, Option, Some, None, if◌then◌else◌}
+use Rattle.std.specs.Prelude.{ℕ, suc, ◌≤◌, ◌≡◌, ◌&&◌, max, not, nat_le, Bool, true, false, List, length, Option, Some, None, if◌then◌else◌}
 use Rattle.std.specs.List.{count_by, list_all, sum_by}
-use Rattle.ft_lex.specs.Bytes.{is_letter, is_name_byte}
-use Rattle.ft_lex.specs.Words.{is_reserved_word}
+use Rattle.ft_base.specs.Names.{is_name}
 use Rattle.ft_tree.specs.declared.expr.Expr.{Expr, Expr-F, fold-Expr}
 use Rattle.ft_tree.specs.declared.expr.Expr.TheOpen as layer
 use Rattle.ft_tree.specs.declared.item.Word.{Word}
@@ -24,14 +23,6 @@ use Rattle.ft_tree.specs.declared.level.Level.{Level}
 use Rattle.ft_tree.specs.declared.level.Level.TheVariants.{Negation, Unary, Atom}
 use Rattle.ft_tree.specs.Expression.{expr_pieces}
 use Rattle.ft_tree.specs.Level.{is_looser, left_level, op_level, right_level}
-
-abbrev pub begins_by_letter : List ℕ → Bool
-begins_by_letter [] = false
-begins_by_letter (b ∷ _) = is_letter b
-
--- a letter with letters, digits and `_` after it, at most 40 bytes, and no reserved word
-abbrev pub is_name : List ℕ → Bool
-is_name name = begins_by_letter name && list_all is_name_byte name && nat_le (length name) 40 && not (is_reserved_word name)
 
 abbrev pub is_number : ℕ → Bool
 is_number value = nat_le value 1000000000

@@ -1,20 +1,15 @@
 -- The tokens that a tree is written with.
-use Rattle.std.specs.Prelude.{ℕ, ◌≡◌, Bool, false, List, [], ◌∷◌, ◌++◌, map, if◌then◌else◌}
+use Rattle.std.specs.Prelude.{ℕ, ◌≡◌, List, [], ◌∷◌, ◌++◌, map, if◌then◌else◌}
 use Rattle.std.specs.List.{flat_map}
 use Rattle.ft_lex.specs.declared.token.Token.{Token}
 use Rattle.ft_lex.specs.declared.token.TokenKind.{TokenKind}
 use Rattle.ft_lex.specs.declared.token.TokenKind.TheVariants.{Name, Number, Word, Sign, End}
-use Rattle.ft_lex.specs.Bytes.{is_digit}
+use Rattle.ft_base.specs.Digits.{begins_by_digit}
 use Rattle.ft_lex.specs.Tokens.{IsTokens, token_text}
-use Rattle.ft_lex.specs.Words.{is_reserved_word}
+use Rattle.ft_base.specs.Names.{begins_by_letter, is_reserved_word}
 use Rattle.ft_tree.specs.declared.tree.Tree.{Tree}
 use Rattle.ft_tree.specs.Canonical.{canonical, tree_lines}
-use Rattle.ft_tree.specs.Limits.{begins_by_letter}
 use Rattle.ft_tree.specs.Line.{Piece, piece_text}
-
-abbrev pub begins_by_digit : List ℕ → Bool
-begins_by_digit [] = false
-begins_by_digit (b ∷ _) = is_digit b
 
 -- the kind of a token of these bytes, which are a reserved word, a name, digits or a sign
 abbrev pub kind_of : List ℕ → TokenKind

@@ -88,6 +88,3 @@ pub fn write_tree(alloc: Global, tree: &Tree) -> Result<Text, NoMemory>
         tree.items.as_slice(),
     )
 }
-
-#[cfg(test)]
-mod tests;

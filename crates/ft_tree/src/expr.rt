@@ -1,7 +1,7 @@
 use ft_base::{Boxed, Place, Text};
 
 /// An operator between two expressions.
-#[derive(Clone, Copy, Debug, PartialEq, Eq, Drop)]
+#[derive(Clone, Copy, PartialEq, Eq, Drop)]
 pub enum Op {
     Or,
     And,
@@ -19,7 +19,7 @@ pub enum Op {
 
 /// An expression as it was read. Its place is that of its operator or, where it has none, of its first token.
 /// Parentheses leave no trace.
-#[derive(Debug, Drop)]
+#[derive(Drop)]
 pub enum Expr {
     /// A number.
     Num {

@@ -2,21 +2,21 @@ use crate::expr::Expr;
 use ft_base::{List, Place, Text};
 
 /// A name and its place.
-#[derive(Debug, Drop)]
+#[derive(Drop)]
 pub struct Word {
     pub text: Text,
     pub place: Place,
 }
 
 /// A number and its place.
-#[derive(Clone, Copy, Debug, Drop)]
+#[derive(Clone, Copy, Drop)]
 pub struct Number {
     pub value: u64,
     pub place: Place,
 }
 
 /// A number, a name or a truth.
-#[derive(Debug, Drop)]
+#[derive(Drop)]
 pub enum Plain {
     Number(u64),
     Name(Text),
@@ -25,7 +25,7 @@ pub enum Plain {
 
 /// A bound, an `init` value or a hold, with the place of its first token.
 /// A truth stands in an `init` value alone and has no minus. A hold has no minus.
-#[derive(Debug, Drop)]
+#[derive(Drop)]
 pub struct Bound {
     pub minus: bool,
     pub value: Plain,
@@ -33,7 +33,7 @@ pub struct Bound {
 }
 
 /// What values a variable has: those of a range, of a declared type, or the truths.
-#[derive(Debug, Drop)]
+#[derive(Drop)]
 pub enum Kind {
     Range(Bound, Bound),
     Named(Word),
@@ -41,7 +41,7 @@ pub enum Kind {
 }
 
 /// The words before a variable's name.
-#[derive(Clone, Copy, Debug, PartialEq, Eq, Drop)]
+#[derive(Clone, Copy, PartialEq, Eq, Drop)]
 pub enum VarWord {
     Mon,
     Con,
@@ -52,7 +52,7 @@ pub enum VarWord {
 }
 
 /// The section of a table, or the side of a memory.
-#[derive(Clone, Copy, Debug, PartialEq, Eq, Drop)]
+#[derive(Clone, Copy, PartialEq, Eq, Drop)]
 pub enum SectionWord {
     In,
     Req,
@@ -61,7 +61,7 @@ pub enum SectionWord {
 }
 
 /// When a clause on the environment holds: at scan 0, at each scan, or at each scan after 0.
-#[derive(Clone, Copy, Debug, PartialEq, Eq, Drop)]
+#[derive(Clone, Copy, PartialEq, Eq, Drop)]
 pub enum NatWord {
     First,
     Always,
@@ -69,7 +69,7 @@ pub enum NatWord {
 }
 
 /// A row of a table, with the place of its word `row`.
-#[derive(Debug, Drop)]
+#[derive(Drop)]
 pub struct Row {
     pub place: Place,
     pub head: Expr,
@@ -77,7 +77,7 @@ pub struct Row {
 }
 
 /// A row of a vector table, with the place of its word `row`.
-#[derive(Debug, Drop)]
+#[derive(Drop)]
 pub struct VRow {
     pub place: Place,
     pub target: Word,
@@ -85,14 +85,14 @@ pub struct VRow {
 }
 
 /// A fact of a block: an invariant that it shows, or a controlled variable that is its goal.
-#[derive(Debug, Drop)]
+#[derive(Drop)]
 pub enum FactItem {
     Shows { name: Word, cond: Expr },
     Goal { con: Word },
 }
 
 /// A declaration, a table, a clause on the environment or a block.
-#[derive(Debug, Drop)]
+#[derive(Drop)]
 pub enum Item {
     Constant {
         name: Word,

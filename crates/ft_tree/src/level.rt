@@ -4,7 +4,7 @@ ghost use Rattle.ft_tree.specs.Level.{is_looser, left_level, op_level, op_sign, 
 use crate::expr::Op;
 
 /// How tightly an expression binds, from the loosest.
-#[derive(Clone, Copy, Debug, PartialEq, Eq, Drop)]
+#[derive(Clone, Copy, PartialEq, Eq, Drop)]
 pub enum Level {
     /// By `or`.
     Disjunction,

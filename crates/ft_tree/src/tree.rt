@@ -4,7 +4,7 @@ use crate::item::{Item, Number};
 use ft_base::{List, Text};
 
 /// The tree of a set's text. Its names are names, and the limits of sets hold.
-#[derive(Debug, Drop)]
+#[derive(Drop)]
 pub struct Tree {
     pub name: Text,
     pub period: Number,

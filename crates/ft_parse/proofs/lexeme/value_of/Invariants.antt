@@ -1,5 +1,5 @@
 use Rattle.std.proofs.Common.{◌≡◌, ◌≤◌, take}
-use Rattle.ft_parse.specs.Lexeme.{decimal_value}
+use Rattle.ft_base.specs.Digits.{decimal_value}
 use Rattle.ft_parse.proofs.lexeme.value_of.Given as goal
 
 abbrev pub invariant-loop-digit : goal.invariant-loop-digit

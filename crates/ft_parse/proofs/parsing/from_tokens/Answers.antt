@@ -35,10 +35,10 @@ returns-in-Err-clause-fault c =
 
 pub returns-in-Ok-clause-same : goal.returns-in-Ok-clause-same
 returns-in-Ok-clause-same c =
-    λ tree s. read-same c.args.text.now c.args.tokens.now c.requires.tokens c.requires.sole c.in-Ok.parts c.set.new.cursor c.tree.result tree
+    λ tree s. read-same c.args.text.now c.args.tokens.now c.requires.tokens c.requires.sole c.canonical_tokens.ensures c.in-Ok.parts c.set.new.cursor c.tree.result tree
     (ap set_by (sym c.new-cursor.ensures) ∙ c.in-Ok.ensures) c.tree.ensures s
 
 pub returns-in-Err-clause-same : goal.returns-in-Err-clause-same
 returns-in-Err-clause-same c =
-    λ tree s. same-unless c.args.text.now c.args.tokens.now c.requires.tokens c.requires.sole c.in-Err.stop c.set.new.cursor c.fault.result tree
+    λ tree s. same-unless c.args.text.now c.args.tokens.now c.requires.tokens c.requires.sole c.canonical_tokens.ensures c.in-Err.stop c.set.new.cursor c.fault.result tree
     (subst (λ s. Stops c.in-Err.stop c.set.new.cursor (set_by s)) c.new-cursor.ensures c.in-Err.ensures) c.fault.ensures s

@@ -1,5 +1,5 @@
--- What is left of a tree without its places: two trees are the same but for places where their bare parts are equal.
-use Rattle.std.specs.Prelude.{map, Option, Some, None}
+-- What is left of a tree without its places.
+use Rattle.std.specs.Prelude.{ℕ, ◌≡◌, List, map, Option, Some, None}
 use Rattle.ft_base.specs.declared.place.Place.{Place}
 use Rattle.ft_tree.specs.declared.expr.Expr.{Expr, Expr-F, fold-Expr}
 use Rattle.ft_tree.specs.declared.expr.Expr.TheOpen as layer
@@ -15,7 +15,7 @@ use Rattle.ft_tree.specs.declared.item.FactItem.{FactItem}
 use Rattle.ft_tree.specs.declared.item.FactItem.TheVariants as fact
 use Rattle.ft_tree.specs.declared.item.Item.{Item}
 use Rattle.ft_tree.specs.declared.item.Item.TheVariants as item
-use Rattle.ft_parse.specs.declared.parts.Parts.{Parts}
+use Rattle.ft_tree.specs.declared.tree.Tree.{Tree}
 
 -- the one place that stands for all
 abbrev pub start : Place
@@ -79,11 +79,26 @@ abbrev pub bare_option : Option Number → Option Number
 bare_option None = None
 bare_option (Some number) = Some (bare_number number)
 
-abbrev pub bare_parts : Parts → Parts
-bare_parts parts = record {
-  name = parts.name;
-  period = bare_number parts.period;
-  splits = bare_option parts.splits;
-  depth = bare_option parts.depth;
-  items = map bare_item parts.items;
+-- the parts of a tree without their places
+pub record BareSet : Type 0 where
+  pub name : List ℕ
+  pub period : Number
+  pub splits : Option Number
+  pub depth : Option Number
+  pub items : List Item
+
+abbrev pub bare_set : (name : List ℕ) (period : Number) (splits depth : Option Number) (items : List Item) → BareSet
+bare_set name period splits depth items = record {
+  name = name;
+  period = bare_number period;
+  splits = bare_option splits;
+  depth = bare_option depth;
+  items = map bare_item items;
 }
+
+abbrev pub bare_tree : Tree → BareSet
+bare_tree tree = bare_set tree.name tree.period tree.splits tree.depth tree.items
+
+-- the trees are the same but for places
+abbrev pub IsSameTree : Tree → Tree → Type 0
+IsSameTree tree other = bare_tree tree ≡ bare_tree other
