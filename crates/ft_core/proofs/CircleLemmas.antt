@@ -7,7 +7,8 @@ use Rattle.ft_core.specs.Order.{ReadsItem, IsCircle}
 use Rattle.std.proofs.lemmas.List.Sums.{sum_by-set}
 use Rattle.ft_core.specs.declared.circle.Search.{Search}
 use Rattle.ft_core.specs.Circles.{Leads, one, more, IsSearch, Searches, AreRead, IsEnd, IsWayBack, IsMet, AreFollowed, unseen}
-use Rattle.ft_core.proofs.PlaceLemmas.{one-at, of-single, of-replicate, on-left, of-push, at-end, of-set, set-here, set-there, contained, place-of, some-at, of-reverse}
+use Rattle.ft_core.specs.Places.{one-at, of-replicate, on-left, of-push, at-end, of-set, set-here, set-there, contained, place-of, some-at}
+use Rattle.ft_core.proofs.PlaceLemmas.{of-single, of-reverse}
 
 -- one way after another
 pub leads-on : (reads : List (List ℕ)) (a b c : ℕ) → Leads reads a b → Leads reads b c → Leads reads a c

@@ -9,7 +9,8 @@ use Rattle.ft_core.specs.declared.walk.Component.{Component}
 use Rattle.ft_core.specs.Order.{ReadsItem}
 use Rattle.ft_core.specs.Circles.{Leads, one}
 use Rattle.ft_core.specs.Walk.{IsIn, finished, ahead, waiting, in_hand, IsWalk, IsNew, IsTop, IsLeastAfter, Finishes, work}
-use Rattle.ft_core.proofs.PlaceLemmas.{one-at, none-at, of-single, of-append, on-left, on-right, of-take, in-take, of-drop, in-drop, some-at}
+use Rattle.ft_core.specs.Places.{one-at, none-at, on-left, some-at}
+use Rattle.ft_core.proofs.PlaceLemmas.{of-single, of-append, on-right, of-take, in-take, of-drop, in-drop}
 use Rattle.ft_core.proofs.CircleLemmas.{leads-on}
 use Rattle.ft_core.proofs.WalkLemmas.{leads-top, work-le}
 

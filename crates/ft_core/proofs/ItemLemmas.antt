@@ -13,13 +13,13 @@ use Rattle.ft_core.specs.declared.tables.Table.{Table}
 use Rattle.ft_core.specs.declared.tables.Var.{Var}
 use Rattle.ft_core.specs.Gathering.{AreVariableReads, items_in, table_reads_for}
 use Rattle.ft_core.specs.Grids.{is_shaped}
-use Rattle.ft_core.specs.Items.{AreReads, IsScanOrder, ReadsWithin, item, item_read}
+use Rattle.ft_core.specs.Items.{ArePlainReads, IsScanOrder, ReadsWithin, item, item_read}
 use Rattle.ft_core.specs.Order.{AreItems, IsCircle, IsOrder, ReadsItem}
 use Rattle.ft_core.specs.Reads.{Read, at_now, at_before, of_memory, of_age, memory_reads}
 use Rattle.ft_core.specs.Sound.{HasOrder, item_reads, is_current}
 use Rattle.ft_core.proofs.CellReads.{tables-in, tables-out}
 use Rattle.ft_core.proofs.OrderLaws.{excludes}
-use Rattle.ft_core.proofs.PlaceLemmas.{some-at}
+use Rattle.ft_core.specs.Places.{some-at}
 
 -- the items in a list of reads
 module _ (vars memories : ℕ) where
@@ -139,18 +139,18 @@ module _ (vars : ℕ) (memories : List Memory) (tables : List Table) (own lists 
       by_test false e = items-out vars (length memories) (memory_reads (slice_get memories (k - vars))) q
           (subst (λ (l : List ℕ). Contains l q) (memory-list k (ltb-false k vars e) less) h)
 
-  pub are-reads : AreReads vars memories tables lists
+  pub are-reads : ArePlainReads vars memories tables lists
   are-reads = record { long = all-long; each = λ k q less h. within-item k q h less; only = item-within }
 
 -- the same of slices that are lent
 pub of-lent : (vars lent_vars : ℕ) (memories lent_memories : List Memory) (tables lent_tables : List Table) (reads : List (List ℕ)) → lent_vars ≡ vars → lent_memories ≡ memories
-    → lent_tables ≡ tables → AreReads lent_vars lent_memories lent_tables reads → AreReads vars memories tables reads
+    → lent_tables ≡ tables → ArePlainReads lent_vars lent_memories lent_tables reads → ArePlainReads vars memories tables reads
 of-lent vars lent_vars memories lent_memories tables lent_tables reads same same_memories same_tables are =
-    subst (λ (n : ℕ). AreReads n memories tables reads) same
-    (subst (λ (ms : List Memory). AreReads lent_vars ms tables reads) same_memories (subst (λ (ts : List Table). AreReads lent_vars lent_memories ts reads) same_tables are))
+    subst (λ (n : ℕ). ArePlainReads n memories tables reads) same
+    (subst (λ (ms : List Memory). ArePlainReads lent_vars ms tables reads) same_memories (subst (λ (ts : List Table). ArePlainReads lent_vars lent_memories ts reads) same_tables are))
 
 -- lists of what items read
-module _ (vars : ℕ) (memories : List Memory) (tables : List Table) (reads : List (List ℕ)) (are : AreReads vars memories tables reads) where
+module _ (vars : ℕ) (memories : List Memory) (tables : List Table) (reads : List (List ℕ)) (are : ArePlainReads vars memories tables reads) where
   pub are-items : AreItems reads
   are-items k q h = let r = are.only k q h in let long = are.long in let below = (read-below vars (length memories) r.0 q r.2).0 in omega (arith, long, below)
 
@@ -164,7 +164,7 @@ module _ (vars : ℕ) (memories : List Memory) (tables : List Table) (reads : Li
 
 -- the rank of a checked set leaves no circle
 pub no-circle : (vars : List Var) (memories : List Memory) (tables : List Table) (reads : List (List ℕ)) → ∥ HasOrder vars memories tables ∥₁
-    → AreReads (length vars) memories tables reads → (items : List ℕ) → IsCircle reads items → ⊥
+    → ArePlainReads (length vars) memories tables reads → (items : List ℕ) → IsCircle reads items → ⊥
 no-circle vars memories tables reads ordered are items circle = ∥∥₁_elim ordered (hlevel props)
     (λ o. excludes reads (λ k. o.0 (item (length vars) k)) (record {
       bounded = λ k less. let long = are.long in let below = o.1.bounded (item (length vars) k) in omega (arith, long, below);

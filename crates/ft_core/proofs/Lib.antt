@@ -1,13 +1,13 @@
 pub mod CellReads
 pub mod CircleLemmas
 pub mod ClosingLemmas
-pub mod ExampleLemmas
 pub mod GatherLemmas
 pub mod ItemLemmas
+pub mod NumberingLemmas
 pub mod OrderLaws
 pub mod PlaceLemmas
 pub mod ReadLemmas
-pub mod SizeLemmas
-pub mod TermLemmas
+pub mod SetOrderLemmas
+pub mod TestLemmas
 pub mod WalkLemmas
 pub mod WalkSteps

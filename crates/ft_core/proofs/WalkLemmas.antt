@@ -9,7 +9,8 @@ use Rattle.ft_core.specs.declared.walk.Component.{Component}
 use Rattle.ft_core.specs.Order.{ReadsItem}
 use Rattle.ft_core.specs.Circles.{Leads, one, more}
 use Rattle.ft_core.specs.Walk.{IsIn, IsLone, finished, ahead, waiting, in_hand, IsWalk, IsNew, IsTop, Joins, IsLeast, Finishes, weight, work}
-use Rattle.ft_core.proofs.PlaceLemmas.{one-at, none-at, of-append, on-left, on-right, of-push, at-end, of-take, in-take, of-set, set-here, set-there, contained, place-of, some-at}
+use Rattle.ft_core.specs.Places.{one-at, none-at, on-left, of-push, at-end, of-set, set-here, set-there, contained, place-of, some-at}
+use Rattle.ft_core.proofs.PlaceLemmas.{of-append, on-right, of-take, in-take}
 use Rattle.ft_core.proofs.CircleLemmas.{leads-on}
 
 -- one more component is dropped

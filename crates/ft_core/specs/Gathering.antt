@@ -1,5 +1,5 @@
 -- What items read of each other within a scan, as lists that grow table by table.
-use Rattle.std.specs.Prelude.{ℕ, ◌≡◌, ◌<◌, ◌==◌, Bool, ◌||◌, List, [], ◌++◌, length, slice_index_or, filter_map, if◌then◌else◌}
+use Rattle.std.specs.Prelude.{ℕ, ◌≡◌, ◌<◌, ◌==◌, Bool, ◌||◌, List, [], ◌++◌, length, map, slice_get, slice_index_or, Some, filter_map, if◌then◌else◌}
 use Rattle.std.specs.List.{flat_map, zip}
 use Rattle.ft_core.specs.declared.tables.Table.{Table}
 use Rattle.ft_core.specs.declared.tables.Section.{Section}
@@ -59,3 +59,9 @@ pub record Longer (more : ℕ → List ℕ) (old new : List (List ℕ)) : Type 0
 abbrev pub AreVariableReads : (vars memories : ℕ) → List Table → List (List ℕ) → Type 0
 AreVariableReads vars memories tables lists =
     (length lists ≡ vars) × ((k : ℕ) → k < vars → slice_index_or lists k [] ≡ items_in vars memories (flat_map (table_reads_for k) tables))
+
+-- the list of an item has gone to the place of its number, and has the numbers of what it had
+pub record AreRenumbered (numbers : List ℕ) (reads lists : List (List ℕ)) : Type 0 where
+  pub long : length lists ≡ length reads
+  pub each : (k n : ℕ) → slice_get numbers k ≡ Some n
+      → slice_get lists n ≡ Some (map (λ q. slice_index_or numbers q 0) (slice_index_or reads k []))

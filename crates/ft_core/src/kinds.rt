@@ -1,18 +1,18 @@
 ghost use Rattle.std.specs.Prelude.{◌≡◌};
 ghost use Rattle.ft_core.specs.Kinds.{defined_kinds, given_kinds, section_of, side_kinds};
 
-use crate::tables::{Section, Side, VarKind};
+use crate::tables::{Section, Side, Var, VarKind};
 
 impl Section {
-    /// Whether its tables define the variables of a kind.
-    pub fn defines(self, kind: VarKind) -> bool
-        ensures { result ≡ defined_kinds self kind }
+    /// Whether its tables define the variable at a place of the set.
+    pub fn defines(self, place: usize, var: &Var) -> bool
+        ensures { result ≡ defined_kinds self place var.now }
     {
         match self {
-            Section::In => kind == VarKind::Input,
-            Section::Req => kind == VarKind::Con || kind == VarKind::ReqInner,
-            Section::Sof => kind == VarKind::Output || kind == VarKind::SofInner,
-            Section::Out => kind == VarKind::Con,
+            Section::In => var.kind == VarKind::Input,
+            Section::Req => var.kind == VarKind::Con || var.kind == VarKind::ReqInner,
+            Section::Sof => var.kind == VarKind::Output || var.kind == VarKind::SofInner,
+            Section::Out => var.kind == VarKind::Con,
         }
     }
 }
@@ -28,20 +28,20 @@ impl Side {
         }
     }
 
-    /// Whether it is given the variables of a kind at each scan.
-    pub fn is_given(self, kind: VarKind) -> bool
-        ensures { result ≡ given_kinds self kind }
+    /// Whether it is given the variable at a place of the set at each scan.
+    pub fn is_given(self, place: usize, var: &Var) -> bool
+        ensures { result ≡ given_kinds self place var.now }
     {
         match self {
-            Side::Req => kind == VarKind::Mon,
-            Side::Sof => kind == VarKind::Input,
+            Side::Req => var.kind == VarKind::Mon,
+            Side::Sof => var.kind == VarKind::Input,
         }
     }
 
-    /// Whether a trace of it has the variables of a kind: those that are given and those that its tables define.
-    pub fn has(self, kind: VarKind) -> bool
-        ensures { result ≡ side_kinds self kind }
+    /// Whether a trace of it has the variable at a place of the set: those that are given and those that its tables define.
+    pub fn has(self, place: usize, var: &Var) -> bool
+        ensures { result ≡ side_kinds self place var.now }
     {
-        self.is_given(kind) || self.section().defines(kind)
+        self.is_given(place, var) || self.section().defines(place, var)
     }
 }

@@ -3,7 +3,7 @@ ghost use Rattle.std.specs.Prelude.{◌≡◌, ◌≤◌, ◌+◌, ◌++◌, [],
 ghost use Rattle.std.specs.List.{flat_map, list_all, zip};
 ghost use Rattle.ft_core.specs.Gathering.{Adds, AreVariableReads, Longer, grid_reads_for, if_target, inverted_reads, is_of_side, items_in, normal_reads, row_reads, table_reads_for};
 ghost use Rattle.ft_core.specs.Grids.{is_shaped};
-ghost use Rattle.ft_core.specs.Items.{AreReads, item_read};
+ghost use Rattle.ft_core.specs.Items.{ArePlainReads, item_read};
 ghost use Rattle.ft_core.specs.Reads.{at_now, of_memory, cond_reads, memory_reads, term_reads};
 
 use crate::tables::{Grid, Memory, Section, Table};
@@ -303,7 +303,7 @@ fn gather_grid(
 fn is_of_side(section: Section) -> bool
     ensures { result ≡ is_of_side section }
 {
-    section == Section::Req || section == Section::Sof
+    section.is(Section::Req) || section.is(Section::Sof)
 }
 
 // Adds what a table reads to the lists of its targets, where it is of REQ or SOF.
@@ -322,12 +322,12 @@ fn gather_table(
     }
 }
 
-// A list for each variable, without an item.
-fn empty_lists(alloc: Global, vars: usize) -> Result<Vec<List<u32>>, NoMemory>
-    ensures { IfOk result (λ lists. lists.items ≡ replicate vars []) }
+// So many lists, without an item.
+pub(crate) fn empty_lists(alloc: Global, count: usize) -> Result<Vec<List<u32>>, NoMemory>
+    ensures { IfOk result (λ lists. lists.items ≡ replicate count []) }
 {
     let mut lists = Vec::new(alloc);
-    for _variable in 0..vars {
+    for _item in 0..count {
         lists.push(List::new(alloc))?;
     }
     Ok(lists)
@@ -375,8 +375,9 @@ fn add_memories(
     Ok(())
 }
 
-/// What each variable and each memory reads of the others within one scan. Each table is read once, the columns of a vector table too.
-pub(crate) fn reads_within(
+/// What each variable and each memory reads of the others within one scan, with the variables numbered first. Each table is
+/// read once, the columns of a vector table too.
+pub(crate) fn plain_reads(
     alloc: Global,
     vars: usize,
     memories: &[Memory],
@@ -384,7 +385,7 @@ pub(crate) fn reads_within(
 ) -> Result<List<List<u32>>, NoMemory>
     requires shapes { IsTrue (list_all (λ table. is_shaped table.grid) tables.now) }
     requires few { vars + length memories.now ≤ 10000 }
-    ensures { IfOk result (AreReads vars memories.now tables.now) }
+    ensures { IfOk result (ArePlainReads vars memories.now tables.now) }
 {
     let counts = Counts {
         vars: vars as u32,
@@ -393,205 +394,4 @@ pub(crate) fn reads_within(
     let mut lists = read_by_variables(alloc, counts, tables)?;
     add_memories(alloc, &mut lists, counts, memories)?;
     Ok(lists)
-}
-
-#[cfg(test)]
-mod tests {
-    use super::*;
-    use crate::tables::Side;
-    use crate::term::Rel;
-    use ft_base::Boxed;
-    use std::test::Fail;
-
-    #[derive(Clone, Copy, Drop)]
-    enum Form {
-        Normal,
-        Inverted,
-        Vector,
-    }
-
-    // A table, and what each of three variables reads by it. Two memories are the items 3 and 4.
-    #[derive(Clone, Copy, Drop)]
-    struct Case<'t> {
-        section: Section,
-        form: Form,
-        target: u32,
-        reads: &'t [&'t [u32]],
-    }
-
-    fn only<T: Drop>(alloc: Global, item: T) -> Result<List<T>, NoMemory>
-        ensures { IfOk result (λ list. list ≡ item ∷ []) }
-    {
-        let mut list = List::new(alloc);
-        list.push(item)?;
-        Ok(list)
-    }
-
-    fn pair<T: Drop>(alloc: Global, a: T, b: T) -> Result<List<T>, NoMemory>
-        ensures { IfOk result (λ list. list ≡ a ∷ b ∷ []) }
-    {
-        let mut list = List::new(alloc);
-        list.push(a)?;
-        list.push(b)?;
-        Ok(list)
-    }
-
-    // Reads variable 0, memory 0 and variable 1.
-    fn normal(alloc: Global, target: u32) -> Result<Grid, NoMemory>
-        ensures { IfOk result (λ grid. IsTrue (is_shaped grid)) }
-    {
-        let columns = only(alloc, Cond::Compare(Rel::Ge, Term::Now(0), Term::Num(1)))?;
-        let rows = only(alloc, Cond::Memory(0))?;
-        let terms = only(alloc, only(alloc, Term::Now(1))?)?;
-        Ok(Grid::Normal {
-            target,
-            columns,
-            rows,
-            terms,
-        })
-    }
-
-    // Reads variable 0, memory 1 and variable 2.
-    fn inverted(alloc: Global, target: u32) -> Result<Grid, NoMemory>
-        ensures { IfOk result (λ grid. IsTrue (is_shaped grid)) }
-    {
-        let terms = only(alloc, Term::Neg(Boxed::new(alloc, Term::Now(0))?))?;
-        let rows = only(alloc, Cond::Not(Boxed::new(alloc, Cond::Memory(1))?))?;
-        let grid = only(
-            alloc,
-            only(alloc, Cond::Compare(Rel::Eq, Term::Prev(1), Term::Now(2)))?,
-        )?;
-        Ok(Grid::Inverted {
-            target,
-            terms,
-            rows,
-            grid,
-        })
-    }
-
-    // The columns read variable 0, the first row nothing of this scan, and the row for variable 2 the first row's variable.
-    fn vector(alloc: Global, target: u32) -> Result<Grid, NoMemory>
-        ensures { IfOk result (λ grid. IsTrue (is_shaped grid)) }
-    {
-        let columns = only(alloc, Cond::Compare(Rel::Gt, Term::Now(0), Term::Prev(0)))?;
-        let targets = pair(alloc, target, 2)?;
-        let first = only(
-            alloc,
-            Term::Times(2, Boxed::new(alloc, Term::Prev(target))?),
-        )?;
-        let second = only(alloc, Term::Now(target))?;
-        Ok(Grid::Vector {
-            columns,
-            targets,
-            terms: pair(alloc, first, second)?,
-        })
-    }
-
-    fn grid(alloc: Global, form: Form, target: u32) -> Result<Grid, NoMemory>
-        ensures { IfOk result (λ grid. IsTrue (is_shaped grid)) }
-    {
-        match form {
-            Form::Normal => normal(alloc, target),
-            Form::Inverted => inverted(alloc, target),
-            Form::Vector => vector(alloc, target),
-        }
-    }
-
-    // The first reads the second and variable 1, the second variable 0.
-    fn memories(alloc: Global) -> Result<List<Memory>, NoMemory>
-        ensures { IfOk result (λ list. length list ≡ 2) }
-    {
-        let second = Boxed::new(alloc, Cond::Memory(1))?;
-        let older = Boxed::new(alloc, Cond::Compare(Rel::Lt, Term::Now(1), Term::Age(0)))?;
-        let held = Memory::Held {
-            name: List::new(alloc),
-            side: Side::Req,
-            cond: Cond::And(second, older),
-            hold: 100,
-        };
-        let hyst = Memory::Hyst {
-            name: List::new(alloc),
-            side: Side::Req,
-            term: Term::Sub(
-                Boxed::new(alloc, Term::Now(0))?,
-                Boxed::new(alloc, Term::Prev(2))?,
-            ),
-            lo: 0,
-            hi: 5,
-            start: false,
-        };
-        pair(alloc, held, hyst)
-    }
-
-    fn reads_of(
-        alloc: Global,
-        section: Section,
-        form: Form,
-        target: u32,
-    ) -> Result<List<List<u32>>, NoMemory> {
-        let table = Table {
-            section,
-            grid: grid(alloc, form, target)?,
-        };
-        let tables = only(alloc, table)?;
-        let memories = memories(alloc)?;
-        reads_within(alloc, 3, memories.as_slice(), tables.as_slice())
-    }
-
-    fn reads_at(reads: &List<List<u32>>, item: usize, wanted: &[u32]) -> bool {
-        item < reads.len() && reads.get(item).as_slice() == wanted
-    }
-
-    #[test]
-    fn variables_read_by_their_tables(rt: HostRuntime) -> Result<(), Fail> {
-        let cases = [
-            Case {
-                section: Section::Req,
-                form: Form::Normal,
-                target: 2,
-                reads: &[&[], &[], &[0, 3, 1]],
-            },
-            Case {
-                section: Section::Sof,
-                form: Form::Inverted,
-                target: 1,
-                reads: &[&[], &[0, 4, 2], &[]],
-            },
-            Case {
-                section: Section::Req,
-                form: Form::Vector,
-                target: 1,
-                reads: &[&[], &[0], &[0, 1]],
-            },
-            // other sections define no item
-            Case {
-                section: Section::In,
-                form: Form::Normal,
-                target: 2,
-                reads: &[&[], &[], &[]],
-            },
-            Case {
-                section: Section::Out,
-                form: Form::Vector,
-                target: 1,
-                reads: &[&[], &[], &[]],
-            },
-        ];
-        for case in cases.iter() {
-            let reads = reads_of(rt.alloc(), case.section, case.form, case.target)?;
-            for (item, wanted) in case.reads.iter().enumerate() {
-                assert!(rt; reads_at(&reads, item, *wanted));
-            }
-        }
-        Ok(())
-    }
-
-    #[test]
-    fn memories_read_after_the_variables(rt: HostRuntime) -> Result<(), Fail> {
-        let reads = reads_of(rt.alloc(), Section::Req, Form::Normal, 2)?;
-        assert_eq!(rt; reads.len(), 5);
-        assert!(rt; reads_at(&reads, 3, &[4, 1]));
-        assert!(rt; reads_at(&reads, 4, &[0]));
-        Ok(())
-    }
 }

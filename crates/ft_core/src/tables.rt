@@ -1,10 +1,14 @@
+ghost use Rattle.std.specs.Prelude.{◌≡◌};
+ghost use Rattle.ft_core.specs.Grids.{is_section};
+ghost use Rattle.ft_core.specs.Inits.{init_of};
 ghost use Rattle.ft_core.specs.Sound.{IsSound};
+ghost use Rattle.ft_core.specs.Checked.{IsChecked, checked_prop};
 
 use crate::term::{Cond, Term};
 use ft_base::{List, Range, Text};
 
 /// What a variable stands for, in the four-variable model of Parnas and Madey.
-#[derive(Clone, Copy, Debug, PartialEq, Eq, Drop)]
+#[derive(Clone, Copy, PartialEq, Eq, Drop)]
 pub enum VarKind {
     /// Monitored: a quantity of the environment that the controller watches.
     Mon,
@@ -21,7 +25,7 @@ pub enum VarKind {
 }
 
 /// The requirement or the design.
-#[derive(Clone, Copy, Debug, PartialEq, Eq, Drop)]
+#[derive(Clone, Copy, PartialEq, Eq, Drop)]
 pub enum Side {
     /// The requirement.
     Req,
@@ -30,7 +34,7 @@ pub enum Side {
 }
 
 /// The relation that a table is part of.
-#[derive(Clone, Copy, Debug, PartialEq, Eq, Drop)]
+#[derive(Clone, Copy, PartialEq, Eq, Drop)]
 pub enum Section {
     /// From monitored values to inputs.
     In,
@@ -119,7 +123,7 @@ pub enum Fact {
 }
 
 /// A variable or a memory, by its place, whose table or move a block takes.
-#[derive(Clone, Copy, Debug, PartialEq, Eq, Drop)]
+#[derive(Clone, Copy, PartialEq, Eq, Drop)]
 pub enum Take {
     Variable(u32),
     Memory(u32),
@@ -156,4 +160,26 @@ pub struct Tables {
     pub step: List<Cond>,
     pub blocks: List<Block>,
     pub ghost sound: { IsSound period vars memories tables first always step },
+    pub ghost checked: { IsChecked name splits depth vars memories tables first always step blocks } by { checked_prop name splits depth vars memories tables first always step blocks },
+}
+
+impl Section {
+    /// Whether it is this section.
+    pub fn is(self, other: Section) -> bool
+        ensures { result ≡ is_section self other }
+    {
+        self == other
+    }
+}
+
+impl Tables {
+    /// The value of a variable one scan before scan 0, and 0 where the set has none at this place.
+    pub fn init_of(&self, variable: usize) -> i64
+        ensures { result ≡ init_of self.now.vars variable }
+    {
+        match self.vars.as_slice().get(variable) {
+            Some(var) => var.init,
+            None => 0,
+        }
+    }
 }

@@ -24,7 +24,7 @@ pub enum Term {
 }
 
 /// How two numbers are compared.
-#[derive(Clone, Copy, Debug, PartialEq, Eq, Drop)]
+#[derive(Clone, Copy, PartialEq, Eq, Drop)]
 pub enum Rel {
     /// Equal.
     Eq,

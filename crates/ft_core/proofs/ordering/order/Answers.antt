@@ -1,9 +1,13 @@
-use Rattle.ft_core.proofs.OrderLaws.{ordered-acyclic}
+use Rattle.ft_core.proofs.OrderLaws.{gives-rank, ordered-acyclic}
 use Rattle.ft_core.proofs.WalkSteps.{is-order, first-circle}
 use Rattle.ft_core.proofs.ordering.order.Goals as goal
 
 pub returns-in-None-clause-ordered : goal.returns-in-None-clause-ordered
 returns-in-None-clause-ordered c = is-order c.args.reads.now c.in_ok-walk.walk c.in_ok-walk.ensures.walk c.in_ok-walk.ensures.all c.in-None.is
+
+pub returns-in-None-clause-ranked : goal.returns-in-None-clause-ranked
+returns-in-None-clause-ranked c =
+    gives-rank c.args.reads.now c.in_ok-walk.walk.order (is-order c.args.reads.now c.in_ok-walk.walk c.in_ok-walk.ensures.walk c.in_ok-walk.ensures.all c.in-None.is)
 
 pub returns-in-None-clause-acyclic : goal.returns-in-None-clause-acyclic
 returns-in-None-clause-acyclic c =

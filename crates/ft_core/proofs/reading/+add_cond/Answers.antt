@@ -1,6 +1,7 @@
 use Rattle.std.proofs.Common.{◌∙◌, sym, ap, ◌++◌}
 use Rattle.ft_core.specs.Reads.{term_reads, cond_reads}
-use Rattle.ft_core.proofs.ReadLemmas.{adds-constant, adds-last, cond_reads-either, reads-Compare}
+use Rattle.ft_core.specs.Equations.{reads-Compare}
+use Rattle.ft_core.proofs.ReadLemmas.{adds-constant, adds-last, cond_reads-either}
 use Rattle.ft_core.proofs.reading.+add_cond.Goals as goal
 
 pub returns-in-Yes : goal.returns-in-Yes

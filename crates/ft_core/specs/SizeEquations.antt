@@ -1,4 +1,4 @@
--- The size of a term and of a condition by those of their parts.
+-- The size and the length of a term and of a condition by those of their parts.
 use Rattle.std.proofs.Common.{◌≡◌, ap, ℕ, ◌+◌, ◌*◌, ℤ, pos, Bool, true, ◌&&◌, List, slice_get}
 use Rattle.std.specs.Prelude.{unsigned_abs, nat_le, int_le}
 use Rattle.ft_core.specs.declared.tables.Var.{Var}
@@ -11,7 +11,8 @@ use Rattle.ft_core.specs.declared.term.Cond.{Cond, Cond-F, map-Cond, roll-Cond}
 use Rattle.ft_core.specs.declared.term.Cond.TheOpen as cl
 use Rattle.ft_core.specs.declared.term.Cond.TheVariants.{Yes, No, Compare, Memory as Recalled, Not, And, Or, rolls-Yes, rolls-No, rolls-Compare, rolls-Memory, rolls-Not, rolls-And, rolls-Or}
 use Rattle.ft_core.specs.Size.{Measure, measure, layer_measure, size_of, var_size, age_size, is_sized_term, is_sized, layer_sized}
-use Rattle.ft_core.proofs.TermLemmas.{term_folds, cond_folds}
+use Rattle.ft_core.specs.Short.{leaves, layer_leaves, is_factored, layer_factored, is_short_term, is_short, layer_short}
+use Rattle.ft_core.specs.Equations.{term_folds, cond_folds}
 
 module _ (vars : List Var) (memories : List Memory) where
   measure-rolled : (t : Term) (a_layer : Term-F Term) → roll-Term a_layer ≡ t
@@ -108,6 +109,93 @@ module _ (vars : List Var) (memories : List Memory) where
   pub sized-Or : (a b : Cond) → is_sized vars memories (Or a b) ≡ (is_sized vars memories a && is_sized vars memories b)
   sized-Or a b = sized-rolled _ (cl.Or a b) (rolls-Or a b)
 
+leaves-rolled : (t : Term) (a_layer : Term-F Term) → roll-Term a_layer ≡ t → leaves t ≡ layer_leaves (map-Term Term ℕ leaves a_layer)
+unfolding leaves
+leaves-rolled = term_folds ℕ layer_leaves
+
+factored-rolled : (t : Term) (a_layer : Term-F Term) → roll-Term a_layer ≡ t → is_factored t ≡ layer_factored (map-Term Term Bool is_factored a_layer)
+unfolding is_factored
+factored-rolled = term_folds Bool layer_factored
+
+short-rolled : (c : Cond) (a_layer : Cond-F Cond) → roll-Cond a_layer ≡ c → is_short c ≡ layer_short (map-Cond Cond Bool is_short a_layer)
+unfolding is_short
+short-rolled = cond_folds Bool layer_short
+
+pub leaves-Num : (n : ℤ) → leaves (Num n) ≡ 1
+leaves-Num n = leaves-rolled _ (tl.Num n) (rolls-Num n)
+
+pub leaves-Now : (x : ℕ) → leaves (Now x) ≡ 1
+leaves-Now x = leaves-rolled _ (tl.Now x) (rolls-Now x)
+
+pub leaves-Prev : (x : ℕ) → leaves (Prev x) ≡ 1
+leaves-Prev x = leaves-rolled _ (tl.Prev x) (rolls-Prev x)
+
+pub leaves-Age : (m : ℕ) → leaves (Age m) ≡ 1
+leaves-Age m = leaves-rolled _ (tl.Age m) (rolls-Age m)
+
+pub leaves-Neg : (e : Term) → leaves (Neg e) ≡ leaves e
+leaves-Neg e = leaves-rolled _ (tl.Neg e) (rolls-Neg e)
+
+pub leaves-Add : (a b : Term) → leaves (Add a b) ≡ leaves a + leaves b
+leaves-Add a b = leaves-rolled _ (tl.Add a b) (rolls-Add a b)
+
+pub leaves-Sub : (a b : Term) → leaves (Sub a b) ≡ leaves a + leaves b
+leaves-Sub a b = leaves-rolled _ (tl.Sub a b) (rolls-Sub a b)
+
+pub leaves-Times : (c : ℤ) (e : Term) → leaves (Times c e) ≡ leaves e
+leaves-Times c e = leaves-rolled _ (tl.Times c e) (rolls-Times c e)
+
+pub leaves-Div : (e : Term) (k : ℤ) → leaves (Div e k) ≡ leaves e
+leaves-Div e k = leaves-rolled _ (tl.Div e k) (rolls-Div e k)
+
+pub factored-Num : (n : ℤ) → is_factored (Num n) ≡ true
+factored-Num n = factored-rolled _ (tl.Num n) (rolls-Num n)
+
+pub factored-Now : (x : ℕ) → is_factored (Now x) ≡ true
+factored-Now x = factored-rolled _ (tl.Now x) (rolls-Now x)
+
+pub factored-Prev : (x : ℕ) → is_factored (Prev x) ≡ true
+factored-Prev x = factored-rolled _ (tl.Prev x) (rolls-Prev x)
+
+pub factored-Age : (m : ℕ) → is_factored (Age m) ≡ true
+factored-Age m = factored-rolled _ (tl.Age m) (rolls-Age m)
+
+pub factored-Neg : (e : Term) → is_factored (Neg e) ≡ is_factored e
+factored-Neg e = factored-rolled _ (tl.Neg e) (rolls-Neg e)
+
+pub factored-Add : (a b : Term) → is_factored (Add a b) ≡ (is_factored a && is_factored b)
+factored-Add a b = factored-rolled _ (tl.Add a b) (rolls-Add a b)
+
+pub factored-Sub : (a b : Term) → is_factored (Sub a b) ≡ (is_factored a && is_factored b)
+factored-Sub a b = factored-rolled _ (tl.Sub a b) (rolls-Sub a b)
+
+pub factored-Times : (c : ℤ) (e : Term) → is_factored (Times c e) ≡ (nat_le (unsigned_abs c) 1000000 && is_factored e)
+factored-Times c e = factored-rolled _ (tl.Times c e) (rolls-Times c e)
+
+pub factored-Div : (e : Term) (k : ℤ) → is_factored (Div e k) ≡ (is_factored e && int_le (pos 1) k && int_le k (pos 1000000))
+factored-Div e k = factored-rolled _ (tl.Div e k) (rolls-Div e k)
+
+pub short-Yes : is_short Yes ≡ true
+short-Yes = short-rolled _ cl.Yes rolls-Yes
+
+pub short-No : is_short No ≡ true
+short-No = short-rolled _ cl.No rolls-No
+
+pub short-Compare : (r : Rel) (a b : Term) → is_short (Compare r a b) ≡ (is_short_term a && is_short_term b)
+short-Compare r a b = short-rolled _ (cl.Compare r a b) (rolls-Compare r a b)
+
+pub short-Memory : (m : ℕ) → is_short (Recalled m) ≡ true
+short-Memory m = short-rolled _ (cl.Memory m) (rolls-Memory m)
+
+pub short-Not : (a : Cond) → is_short (Not a) ≡ is_short a
+short-Not a = short-rolled _ (cl.Not a) (rolls-Not a)
+
+pub short-And : (a b : Cond) → is_short (And a b) ≡ (is_short a && is_short b)
+short-And a b = short-rolled _ (cl.And a b) (rolls-And a b)
+
+pub short-Or : (a b : Cond) → is_short (Or a b) ≡ (is_short a && is_short b)
+short-Or a b = short-rolled _ (cl.Or a b) (rolls-Or a b)
+
 pub ruleset sizes = (
   size-Num,
   size-Now,
@@ -134,4 +222,32 @@ pub ruleset sizes = (
   sized-Not,
   sized-And,
   sized-Or,
+)
+
+pub ruleset lengths = (
+  leaves-Num,
+  leaves-Now,
+  leaves-Prev,
+  leaves-Age,
+  leaves-Neg,
+  leaves-Add,
+  leaves-Sub,
+  leaves-Times,
+  leaves-Div,
+  factored-Num,
+  factored-Now,
+  factored-Prev,
+  factored-Age,
+  factored-Neg,
+  factored-Add,
+  factored-Sub,
+  factored-Times,
+  factored-Div,
+  short-Yes,
+  short-No,
+  short-Compare,
+  short-Memory,
+  short-Not,
+  short-And,
+  short-Or,
 )

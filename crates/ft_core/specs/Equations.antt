@@ -1,5 +1,5 @@
 -- Terms and conditions by their parts: induction, and what each reads by what its parts read.
-use Rattle.std.proofs.Common.{◌≡◌, ◌∙◌, sym, ap, subst, ℕ, ℤ, List}
+use Rattle.std.proofs.Common.{◌≡◌, ◌∙◌, sym, ap, subst, ℕ, ℤ, List, [], ◌∷◌, ◌++◌}
 use Rattle.ft_core.specs.declared.term.Rel.{Rel}
 use Rattle.ft_core.specs.declared.term.Term.{Term, Term-F, map-Term, fold-Term, roll-Term, fold-roll-Term, ind-Term}
 use Rattle.ft_core.specs.declared.term.Term.TheOpen as tl
@@ -7,7 +7,7 @@ use Rattle.ft_core.specs.declared.term.Term.TheVariants.{Num, Now, Prev, Age, Ne
 use Rattle.ft_core.specs.declared.term.Cond.{Cond, Cond-F, map-Cond, fold-Cond, roll-Cond, fold-roll-Cond, ind-Cond}
 use Rattle.ft_core.specs.declared.term.Cond.TheOpen as cl
 use Rattle.ft_core.specs.declared.term.Cond.TheVariants.{Yes, No, Compare, Memory, Not, And, Or, rolls-Yes, rolls-No, rolls-Compare, rolls-Memory, rolls-Not, rolls-And, rolls-Or}
-use Rattle.ft_core.specs.Reads.{Read, term_reads, layer_term_reads, cond_reads, layer_cond_reads}
+use Rattle.ft_core.specs.Reads.{Read, at_now, at_before, of_memory, of_age, term_reads, layer_term_reads, cond_reads, layer_cond_reads}
 
 -- what holds of each kind of term where it holds of its parts
 pub record TermInductive (P : Term → Type 0) : Type 0 where
@@ -73,3 +73,51 @@ reads-rolled = term_folds (List Read) layer_term_reads
 pub cond_reads-rolled : (c : Cond) (a_layer : Cond-F Cond) → roll-Cond a_layer ≡ c → cond_reads c ≡ layer_cond_reads (map-Cond Cond (List Read) cond_reads a_layer)
 unfolding cond_reads
 cond_reads-rolled = cond_folds (List Read) layer_cond_reads
+
+pub reads-Num : (n : ℤ) → term_reads (Num n) ≡ []
+reads-Num n = reads-rolled _ (tl.Num n) (rolls-Num n)
+
+pub reads-Now : (x : ℕ) → term_reads (Now x) ≡ at_now x ∷ []
+reads-Now x = reads-rolled _ (tl.Now x) (rolls-Now x)
+
+pub reads-Prev : (x : ℕ) → term_reads (Prev x) ≡ at_before x ∷ []
+reads-Prev x = reads-rolled _ (tl.Prev x) (rolls-Prev x)
+
+pub reads-Age : (m : ℕ) → term_reads (Age m) ≡ of_age m ∷ []
+reads-Age m = reads-rolled _ (tl.Age m) (rolls-Age m)
+
+pub reads-Neg : (e : Term) → term_reads (Neg e) ≡ term_reads e
+reads-Neg e = reads-rolled _ (tl.Neg e) (rolls-Neg e)
+
+pub reads-Add : (a b : Term) → term_reads (Add a b) ≡ term_reads a ++ term_reads b
+reads-Add a b = reads-rolled _ (tl.Add a b) (rolls-Add a b)
+
+pub reads-Sub : (a b : Term) → term_reads (Sub a b) ≡ term_reads a ++ term_reads b
+reads-Sub a b = reads-rolled _ (tl.Sub a b) (rolls-Sub a b)
+
+pub reads-Times : (c : ℤ) (e : Term) → term_reads (Times c e) ≡ term_reads e
+reads-Times c e = reads-rolled _ (tl.Times c e) (rolls-Times c e)
+
+pub reads-Div : (e : Term) (k : ℤ) → term_reads (Div e k) ≡ term_reads e
+reads-Div e k = reads-rolled _ (tl.Div e k) (rolls-Div e k)
+
+pub reads-Yes : cond_reads Yes ≡ []
+reads-Yes = cond_reads-rolled _ cl.Yes rolls-Yes
+
+pub reads-No : cond_reads No ≡ []
+reads-No = cond_reads-rolled _ cl.No rolls-No
+
+pub reads-Compare : (r : Rel) (a b : Term) → cond_reads (Compare r a b) ≡ term_reads a ++ term_reads b
+reads-Compare r a b = cond_reads-rolled _ (cl.Compare r a b) (rolls-Compare r a b)
+
+pub reads-Memory : (m : ℕ) → cond_reads (Memory m) ≡ of_memory m ∷ []
+reads-Memory m = cond_reads-rolled _ (cl.Memory m) (rolls-Memory m)
+
+pub reads-Not : (a : Cond) → cond_reads (Not a) ≡ cond_reads a
+reads-Not a = cond_reads-rolled _ (cl.Not a) (rolls-Not a)
+
+pub reads-And : (a b : Cond) → cond_reads (And a b) ≡ cond_reads a ++ cond_reads b
+reads-And a b = cond_reads-rolled _ (cl.And a b) (rolls-And a b)
+
+pub reads-Or : (a b : Cond) → cond_reads (Or a b) ≡ cond_reads a ++ cond_reads b
+reads-Or a b = cond_reads-rolled _ (cl.Or a b) (rolls-Or a b)
