@@ -9,6 +9,7 @@ use Rattle.std.proofs.lemmas.Bool.{and_parts, or_cases}
 use Rattle.std.proofs.lemmas.List.Folds.{list_all-append, find-append}
 use Rattle.ft_mean.specs.Past.{scans, held, age}
 use Rattle.ft_mean.specs.Laws.{HeldIsFullAge}
+pub use Rattle.ft_mean.specs.PastLaws.{next_age}
 use Rattle.ft_mean.proofs.PastLemmas.{range_more, same_all}
 
 -- one more scan is put at the end
@@ -56,10 +57,6 @@ found_low p a (suc n) t h = elim (p a) as (λ b. UpTo t (cond b (Some a) (find p
   | true ↦ omega (arith, h)
   | false ↦ found_low p (a + 1) n t (omega (arith, h))
 ]
-
--- the age one scan later
-abbrev pub next_age : (hold elapsed before : ℤ) → (now : Bool) → ℤ
-next_age hold elapsed before now = cond now (cond (int_le (pos 0) before) (int_min hold (before +ℤ elapsed)) (pos 0)) (negsuc 0)
 
 min_none : (hold : ℤ) → pos 0 ≤ℤ hold → int_min hold (pos 0) ≡ pos 0
 min_none hold h = grind (arith, ints)

@@ -1,108 +1,23 @@
--- The value of a term and the truth of a condition by their parts; and what is read alike has one value.
-use Rattle.std.proofs.Common.{◌≡◌, ◌∙◌, sym, ap, subst, ℕ, ℤ, ◌+ℤ◌, ◌-ℤ◌, ◌*ℤ◌, neg_ℤ, Bool, true, false, not, ◌&&◌, ◌||◌, List, [], ◌∷◌, ◌++◌}
+-- What is read alike has one value.
+use Rattle.std.proofs.Common.{◌≡◌, ◌∙◌, sym, ap, subst, ◌+ℤ◌, ◌-ℤ◌, ◌*ℤ◌, neg_ℤ, not, ◌&&◌, ◌||◌, List, [], ◌∷◌, ◌++◌}
 use Rattle.std.specs.List.{Contains}
 use Rattle.std.proofs.lemmas.List.Elements.{Contains-append_left, Contains-append_right, Contains-push}
 use Rattle.ft_base.specs.Division.{floor_of}
-use Rattle.ft_core.specs.declared.term.Rel.{Rel}
-use Rattle.ft_core.specs.declared.term.Term.{Term, Term-F, map-Term, roll-Term}
+use Rattle.ft_core.specs.declared.term.Term.{Term}
 use Rattle.ft_core.specs.declared.term.Term.TheOpen as tl
-use Rattle.ft_core.specs.declared.term.Term.TheVariants.{Num, Now, Prev, Age, Neg, Add, Sub, Times, Div, rolls-Num, rolls-Now, rolls-Prev, rolls-Age, rolls-Neg, rolls-Add, rolls-Sub, rolls-Times, rolls-Div}
-use Rattle.ft_core.specs.declared.term.Cond.{Cond, Cond-F, map-Cond, roll-Cond}
+use Rattle.ft_core.specs.declared.term.Term.TheVariants.{rolls-Now, rolls-Prev, rolls-Age, rolls-Neg, rolls-Add, rolls-Sub, rolls-Times, rolls-Div}
+use Rattle.ft_core.specs.declared.term.Cond.{Cond}
 use Rattle.ft_core.specs.declared.term.Cond.TheOpen as cl
-use Rattle.ft_core.specs.declared.term.Cond.TheVariants.{Yes, No, Compare, Memory, Not, And, Or, rolls-Yes, rolls-No, rolls-Compare, rolls-Memory, rolls-Not, rolls-And, rolls-Or}
+use Rattle.ft_core.specs.declared.term.Cond.TheVariants.{rolls-Compare, rolls-Memory, rolls-Not, rolls-And, rolls-Or}
 use Rattle.ft_core.specs.Reads.{Read, at_now, at_before, of_memory, of_age, term_reads, cond_reads}
-use Rattle.ft_core.proofs.TermLemmas.{term_induction, cond_induction, term_folds, cond_folds, reads-rolled, cond_reads-rolled}
-use Rattle.ft_mean.specs.Value.{View, value, layer_value, compares, truth, layer_truth}
-
-value-rolled : (v : View) (t : Term) (a_layer : Term-F Term) → roll-Term a_layer ≡ t → value v t ≡ layer_value v (map-Term Term ℤ (value v) a_layer)
-unfolding value
-value-rolled v = term_folds ℤ (layer_value v)
-
-truth-rolled : (v : View) (c : Cond) (a_layer : Cond-F Cond) → roll-Cond a_layer ≡ c → truth v c ≡ layer_truth v (map-Cond Cond Bool (truth v) a_layer)
-unfolding truth
-truth-rolled v = cond_folds Bool (layer_truth v)
-
-module _ (v : View) where
-  pub value-Num : (n : ℤ) → value v (Num n) ≡ n
-  value-Num n = value-rolled v _ (tl.Num n) (rolls-Num n)
-
-  pub value-Now : (x : ℕ) → value v (Now x) ≡ v.now x
-  value-Now x = value-rolled v _ (tl.Now x) (rolls-Now x)
-
-  pub value-Prev : (x : ℕ) → value v (Prev x) ≡ v.before x
-  value-Prev x = value-rolled v _ (tl.Prev x) (rolls-Prev x)
-
-  pub value-Age : (m : ℕ) → value v (Age m) ≡ v.age m
-  value-Age m = value-rolled v _ (tl.Age m) (rolls-Age m)
-
-  pub value-Neg : (e : Term) → value v (Neg e) ≡ neg_ℤ (value v e)
-  value-Neg e = value-rolled v _ (tl.Neg e) (rolls-Neg e)
-
-  pub value-Add : (a b : Term) → value v (Add a b) ≡ value v a +ℤ value v b
-  value-Add a b = value-rolled v _ (tl.Add a b) (rolls-Add a b)
-
-  pub value-Sub : (a b : Term) → value v (Sub a b) ≡ value v a -ℤ value v b
-  value-Sub a b = value-rolled v _ (tl.Sub a b) (rolls-Sub a b)
-
-  pub value-Times : (c : ℤ) (e : Term) → value v (Times c e) ≡ c *ℤ value v e
-  value-Times c e = value-rolled v _ (tl.Times c e) (rolls-Times c e)
-
-  pub value-Div : (e : Term) (k : ℤ) → value v (Div e k) ≡ floor_of (value v e) k
-  value-Div e k = value-rolled v _ (tl.Div e k) (rolls-Div e k)
-
-  pub truth-Yes : truth v Yes ≡ true
-  truth-Yes = truth-rolled v _ cl.Yes rolls-Yes
-
-  pub truth-No : truth v No ≡ false
-  truth-No = truth-rolled v _ cl.No rolls-No
-
-  pub truth-Compare : (r : Rel) (a b : Term) → truth v (Compare r a b) ≡ compares r (value v a) (value v b)
-  truth-Compare r a b = truth-rolled v _ (cl.Compare r a b) (rolls-Compare r a b)
-
-  pub truth-Memory : (m : ℕ) → truth v (Memory m) ≡ v.memory m
-  truth-Memory m = truth-rolled v _ (cl.Memory m) (rolls-Memory m)
-
-  pub truth-Not : (a : Cond) → truth v (Not a) ≡ not (truth v a)
-  truth-Not a = truth-rolled v _ (cl.Not a) (rolls-Not a)
-
-  pub truth-And : (a b : Cond) → truth v (And a b) ≡ (truth v a && truth v b)
-  truth-And a b = truth-rolled v _ (cl.And a b) (rolls-And a b)
-
-  pub truth-Or : (a b : Cond) → truth v (Or a b) ≡ (truth v a || truth v b)
-  truth-Or a b = truth-rolled v _ (cl.Or a b) (rolls-Or a b)
-
-pub ruleset evaluation = (
-  value-Num,
-  value-Now,
-  value-Prev,
-  value-Age,
-  value-Neg,
-  value-Add,
-  value-Sub,
-  value-Times,
-  value-Div,
-  truth-Yes,
-  truth-No,
-  truth-Compare,
-  truth-Memory,
-  truth-Not,
-  truth-And,
-  truth-Or,
-)
+use Rattle.ft_core.specs.Equations.{term_induction, cond_induction, reads-rolled, cond_reads-rolled}
+pub use Rattle.ft_mean.specs.Equations.{value-Num, value-Now, value-Prev, value-Age, value-Neg, value-Add, value-Sub, value-Times, value-Div, truth-Yes, truth-No, truth-Compare, truth-Memory, truth-Not, truth-And, truth-Or, evaluation}
+pub use Rattle.ft_mean.specs.EvaluationLaws.{Same, AllSame}
+use Rattle.ft_mean.specs.Value.{View, value, compares, truth}
 
 -- what stands in one list stands in another that equals it
 pub carried : {xs ys : List Read} {r : Read} → ys ≡ xs → Contains xs r → Contains ys r
 carried {r = r} e = subst (λ zs. Contains zs r) (sym e)
-
--- the two valuations give this the same
-abbrev pub Same : View → View → Read → Type 0
-Same v w (at_now x) = v.now x ≡ w.now x
-Same v w (at_before x) = v.before x ≡ w.before x
-Same v w (of_memory m) = v.memory m ≡ w.memory m
-Same v w (of_age m) = v.age m ≡ w.age m
-
-abbrev pub AllSame : View → View → List Read → Type 0
-AllSame v w reads = (r : Read) → Contains reads r → Same v w r
 
 module _ (v w : View) where
   left : (xs ys zs : List Read) → zs ≡ xs ++ ys → AllSame v w zs → AllSame v w xs

@@ -26,11 +26,11 @@ abbrev pub Each : {A : Type 0} → (A → Type 0) → List A → Type 0
 Each P [] = ⊤
 Each P (x ∷ xs) = P x × Each P xs
 
-each_more : {A : Type 0} (P Q : A → Type 0) (xs : List A) → ((a : A) → P a → Q a) → Each P xs → Each Q xs
+pub each_more : {A : Type 0} (P Q : A → Type 0) (xs : List A) → ((a : A) → P a → Q a) → Each P xs → Each Q xs
 each_more P Q [] h p = tt
 each_more P Q (x ∷ xs) h p = (h x p.0, each_more P Q xs h p.1)
 
-each-append : {A : Type 0} (P : A → Type 0) (xs ys : List A) → Each P xs → Each P ys → Each P (xs ++ ys)
+pub each-append : {A : Type 0} (P : A → Type 0) (xs ys : List A) → Each P xs → Each P ys → Each P (xs ++ ys)
 each-append P [] ys p q = q
 each-append P (x ∷ xs) ys p q = (p.0, each-append P xs ys p.1 q)
 
@@ -253,7 +253,7 @@ cells_defined (Vector columns targets terms) =
     vector_defined (λ x. list_any (λ target. target == x) targets) 0 columns targets terms (each_at _ targets (λ i x e. any_at targets i x e))
 
 -- a table that doesn't define a variable has no cell for it
-no_cells : (x : ℕ) (g : Grid) → defines g x ≡ false → cells_for x g ≡ []
+pub no_cells : (x : ℕ) (g : Grid) → defines g x ≡ false → cells_for x g ≡ []
 no_cells x g never = filter_none (λ c. c.target == x) (cells g) (each_more (λ c. defines g c.target ≡ true) (λ c. (c.target == x) ≡ false) (cells g)
     (λ c it. ⊎_elim
     (λ same. absurd (both_ways (defines g x) never (subst (λ y. defines g y ≡ true) (eqb-true c.target x same) it)))

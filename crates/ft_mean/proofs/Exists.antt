@@ -1,6 +1,6 @@
 -- At one scan the tables of a side have an answer.
 use Rattle.std.proofs.Common.{◌≡◌, ◌∙◌, sym, ap, subst, refl, ℕ, zero, suc, ◌<◌, ℤ, pos, true, false, cond, Option, Some, None, slice_get, arith, ⊎_elim, true≢false}
-use Rattle.std.specs.Prelude.{IsTrue, ⊤, ◌==◌}
+use Rattle.std.specs.Prelude.{IsTrue, ⊤, ◌==◌, ◌||◌}
 use Rattle.std.proofs.lemmas.Bool.{cases_Bool, cond-true, cond-false, eq-eqb, ne_eqb, both_ways, or_left}
 use Rattle.std.proofs.lemmas.Option.{same_Some, none-some}
 use Rattle.ft_base.specs.Interval.{IsWithin}
@@ -10,7 +10,7 @@ use Rattle.ft_core.specs.declared.tables.VarKind.{VarKind}
 use Rattle.ft_core.specs.declared.tables.VarKind.TheVariants as kind
 use Rattle.ft_core.specs.declared.tables.Side.{Side}
 use Rattle.ft_core.specs.declared.tables.Side.TheVariants as side
-use Rattle.ft_core.specs.Kinds.{Kinds, given_kinds, defined_kinds, side_kinds, section_of}
+use Rattle.ft_core.specs.Kinds.{Kinds, same_kind, given_kinds, defined_kinds, side_kinds, section_of}
 use Rattle.ft_core.specs.Reads.{at_now}
 use Rattle.ft_mean.specs.Value.{View}
 use Rattle.ft_mean.specs.Reading.{Reading, IsVar}
@@ -43,23 +43,30 @@ pub overlay_range : (S : Tables) (a : Reading) (t : ℕ) (f : ℕ → ℤ) → A
 overlay_range S a t f range in_range j x v is =
     elim (j == t) as (λ b. IsWithin v.range (cond b (f x) (a j x))) [ true ↦ in_range x v is | false ↦ range j x v is ]
 
+-- no kind is given and defined
+apart_req : (k : VarKind) → IsTrue (same_kind kind.Mon k) → IsTrue (same_kind kind.Con k || same_kind kind.ReqInner k) → ⊥
+apart_req kind.Mon g d = absurd (true≢false (sym d))
+apart_req kind.Con g d = absurd (true≢false (sym g))
+apart_req kind.Input g d = absurd (true≢false (sym g))
+apart_req kind.Output g d = absurd (true≢false (sym g))
+apart_req kind.ReqInner g d = absurd (true≢false (sym g))
+apart_req kind.SofInner g d = absurd (true≢false (sym g))
+
+apart_sof : (k : VarKind) → IsTrue (same_kind kind.Input k) → IsTrue (same_kind kind.Output k || same_kind kind.SofInner k) → ⊥
+apart_sof kind.Mon g d = absurd (true≢false (sym g))
+apart_sof kind.Con g d = absurd (true≢false (sym g))
+apart_sof kind.Input g d = absurd (true≢false (sym d))
+apart_sof kind.Output g d = absurd (true≢false (sym g))
+apart_sof kind.ReqInner g d = absurd (true≢false (sym g))
+apart_sof kind.SofInner g d = absurd (true≢false (sym g))
+
 -- no given variable is defined by a table of its side
-disjoint : (s : Side) (k : VarKind) → IsTrue (given_kinds s k) → IsTrue (defined_kinds (section_of s) k) → ⊥
-disjoint side.Req kind.Mon g d = absurd (true≢false (sym d))
-disjoint side.Req kind.Con g d = absurd (true≢false (sym g))
-disjoint side.Req kind.Input g d = absurd (true≢false (sym g))
-disjoint side.Req kind.Output g d = absurd (true≢false (sym g))
-disjoint side.Req kind.ReqInner g d = absurd (true≢false (sym g))
-disjoint side.Req kind.SofInner g d = absurd (true≢false (sym g))
-disjoint side.Sof kind.Mon g d = absurd (true≢false (sym g))
-disjoint side.Sof kind.Con g d = absurd (true≢false (sym g))
-disjoint side.Sof kind.Input g d = absurd (true≢false (sym d))
-disjoint side.Sof kind.Output g d = absurd (true≢false (sym g))
-disjoint side.Sof kind.ReqInner g d = absurd (true≢false (sym g))
-disjoint side.Sof kind.SofInner g d = absurd (true≢false (sym g))
+disjoint : (s : Side) (x : ℕ) (v : Var) → IsTrue (given_kinds s x v) → IsTrue (defined_kinds (section_of s) x v) → ⊥
+disjoint side.Req x v g d = apart_req v.kind g d
+disjoint side.Sof x v g d = apart_sof v.kind g d
 
 pub given_side : (S : Tables) (s : Side) (x : ℕ) (v : Var) → IsVar S (given_kinds s) x v → IsVar S (side_kinds s) x v
-given_side S s x v is = (is.0, or_left (given_kinds s v.kind) (defined_kinds (section_of s) v.kind) is.1)
+given_side S s x v is = (is.0, or_left (given_kinds s x v) (defined_kinds (section_of s) x v) is.1)
 
 -- a number in range for a variable, of which P holds where the variable is of these kinds
 pub record Pick (S : Tables) (kinds : Kinds) (P : ℤ → Type 0) (x : ℕ) : Type 0 where
@@ -83,9 +90,9 @@ module _ (S : Tables) (wf : IsWellFormed S) (kinds : Kinds) (P : ℤ → Type 0)
       (λ other. record {
         z = v.init;
         in_range = λ u there. subst (λ (w : Var). IsWithin w.range v.init) (same_Some v u (sym e ∙ there)) (wf.inits x v e);
-        holds = λ u on. absurd (both_ways (kinds v.kind) other (ap (λ (w : Var). kinds w.kind) (same_Some v u (sym e ∙ on.0)) ∙ on.1));
+        holds = λ u on. absurd (both_ways (kinds x v) other (ap (λ (w : Var). kinds x w) (same_Some v u (sym e ∙ on.0)) ∙ on.1));
       })
-      (cases_Bool (kinds v.kind))
+      (cases_Bool (kinds x v))
 
   pub pick : Pick S kinds P x
   pick = pick_of (slice_get S.vars x) refl
@@ -112,12 +119,12 @@ module _ (S : Tables) (wf : IsWellFormed S) (proper : AllProper S) (s : Side) (a
       (λ given. (
         g x,
         given_range x v given,
-        ((λ u on. refl), (λ u on. absurd (disjoint s v.kind given.1 (ap (λ (w : Var). defined_kinds (section_of s) w.kind) (same_Some v u (sym is.0 ∙ on.0)) ∙ on.1)))),
+        ((λ u on. refl), (λ u on. absurd (disjoint s x v given.1 (ap (λ (w : Var). defined_kinds (section_of s) x w) (same_Some v u (sym is.0 ∙ on.0)) ∙ on.1)))),
       ))
       (λ by_table. let made = make x v by_table in (
         made.0,
         made.1,
-        ((λ u on. absurd (disjoint s v.kind (ap (λ (w : Var). given_kinds s w.kind) (same_Some v u (sym is.0 ∙ on.0)) ∙ on.1) by_table.1)), (λ u on. made.2)),
+        ((λ u on. absurd (disjoint s x v (ap (λ (w : Var). given_kinds s x w) (same_Some v u (sym is.0 ∙ on.0)) ∙ on.1) by_table.1)), (λ u on. made.2)),
       ))
       (given_or_defined S wf s x v is)
 

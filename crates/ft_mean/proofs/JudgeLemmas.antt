@@ -1,5 +1,5 @@
 -- The tests of a trace say that it fits.
-use Rattle.std.proofs.Common.{◌≡◌, ◌∙◌, sym, ap, subst, refl, ℕ, zero, suc, ◌+◌, ◌-◌, ◌<◌, ◌≤◌, ℤ, pos, negsuc, ◌*ℤ◌, Bool, true, false, cond, ◌&&◌, List, [], map, max, length, slice_get, slice_index_or, Option, Some, None, ◌∷◌, arith, ⊎_elim}
+use Rattle.std.proofs.Common.{◌≡◌, ◌∙◌, sym, ap, subst, refl, ℕ, zero, suc, ◌+◌, ◌<◌, ◌≤◌, ℤ, pos, negsuc, Bool, true, false, cond, ◌&&◌, List, [], map, max, length, slice_get, slice_index_or, Option, Some, None, ◌∷◌, arith, ⊎_elim}
 use Rattle.std.specs.Prelude.{◌↔◌, ◌==◌, IsTrue, unsigned_abs}
 use Rattle.std.specs.List.{range_with_len}
 use Rattle.std.specs.Ordering.{int_eq}
@@ -20,7 +20,6 @@ use Rattle.ft_core.specs.Kinds.{given_kinds, defined_kinds, side_kinds, section_
 use Rattle.ft_core.specs.Reads.{Read}
 use Rattle.ft_core.specs.Size.{var_size, age_size}
 use Rattle.ft_mean.specs.declared.seen.Seen.{Seen}
-use Rattle.ft_mean.specs.Past.{held, hyst}
 use Rattle.ft_mean.specs.Value.{value, truth}
 use Rattle.ft_mean.specs.Cells.{defined}
 use Rattle.ft_mean.specs.Memory.{at_scan, remembered, memory_within, memory_at, look}
@@ -33,6 +32,7 @@ use Rattle.ft_mean.proofs.WellFormed.{OnSide, MayRead, opened}
 use Rattle.ft_mean.proofs.CellLemmas.{own_reads}
 use Rattle.ft_mean.proofs.MemoryLemmas.{ageless}
 use Rattle.ft_mean.proofs.OneScan.{table_of, defined_same}
+use Rattle.ft_mean.proofs.BegunLemmas.{before_by}
 use Rattle.ft_mean.proofs.PastLemmas.{same_held, same_hyst}
 use Rattle.ft_mean.proofs.RecallLemmas.{rows_kept, past_kept}
 use Rattle.ft_mean.proofs.TraceTests.{through_at, through_from, asked_of, when_of, list_is, list_from}
@@ -84,11 +84,10 @@ module _ (S : Tables) (s : Side) (trace : Scans) where
   told_past t x out = ap (λ b. cond b (slice_index_or (slice_index_or trace t []) (place_of (side_kinds s) S.vars x) (pos 0)) (init_of S x)) none ∙ init_past x out
     where
       none : is_of S.vars (side_kinds s) x ≡ false
-      none = ap (λ o. elim o as (λ z. Bool) [ None ↦ false | Some v ↦ side_kinds s v.kind ]) (slice_get_past S.vars x out)
+      none = ap (λ o. elim o as (λ z. Bool) [ None ↦ false | Some v ↦ side_kinds s x v ]) (slice_get_past S.vars x out)
 
   before_past : (t x : ℕ) → length S.vars ≤ x → before S ρ t x ≡ pos 0
-  before_past zero x out = init_past x out
-  before_past (suc t) x out = told_past t x out
+  before_past t x out = before_by S ρ (λ z. z ≡ pos 0) t x (init_past x out) (λ k at. told_past k x out)
 
   module _ (list : IsListOf S (side_kinds s) trace) where
     abbrev IsLow : ℕ → ℤ → Type 0
@@ -107,9 +106,10 @@ module _ (S : Tables) (s : Side) (trace : Scans) where
     told_low t x below = by_var x (ρ t x) (told_past t x) (λ v there. reading_range S (opened S) (side_kinds s) trace list t x v below there)
 
     before_low : (t x : ℕ) → t < length trace → IsLow x (before S ρ t x)
-    before_low zero x below = by_var x (init_of S x) (init_past x)
-        (λ v there. subst (λ z. IsWithin v.range z) (sym (ap (λ o. elim o as (λ z. ℤ) [ None ↦ pos 0 | Some u ↦ u.init ]) there)) ((opened S).inits x v there))
-    before_low (suc t) x below = told_low t x (omega (arith, below))
+    before_low t x below = before_by S ρ (IsLow x) t x
+        (by_var x (init_of S x) (init_past x)
+        (λ v there. subst (λ z. IsWithin v.range z) (sym (ap (λ o. elim o as (λ z. ℤ) [ None ↦ pos 0 | Some u ↦ u.init ]) there)) ((opened S).inits x v there)))
+        (λ k at. told_low k x (omega (arith, below, at)))
 
     low_in : (f : ℕ → ℕ → ℤ) → ((t x : ℕ) → length S.vars ≤ x → f t x ≡ pos 0) → ((t x : ℕ) → t < length trace → IsLow x (f t x)) → (t x : ℕ)
         → IsLow x (slice_index_or (slice_index_or (map (λ t. map (f t) (range_with_len 0 (length S.vars))) (range_with_len 0 (length trace))) t []) x (pos 0))
@@ -131,44 +131,39 @@ module _ (S : Tables) (s : Side) (trace : Scans) where
       small = small;
     }
 
-  begun_none : (t : ℕ) → begun S ρ t ≡ zero
-  begun_none zero = refl
-  begun_none (suc t) = begun_none t
-
   abbrev KnowsAt : ℕ → ℕ → Type 0
-  KnowsAt k t = (m : ℕ) → slice_index_or (slice_index_or (after_rounds S k start).bits t []) m false ≡ memory_within k S ρ m t
+  KnowsAt k t = (m : ℕ) → slice_index_or (slice_index_or (after_rounds S ρ k start).bits t []) m false ≡ memory_within k S ρ m t
 
-  same_view : (k t : ℕ) → t < length trace → KnowsAt k t → view_at (after_rounds S k start) t ≡ at_scan S ρ (memory_within k S ρ) t
+  same_view : (k t : ℕ) → t < length trace → KnowsAt k t → view_at (after_rounds S ρ k start) t ≡ at_scan S ρ (memory_within k S ρ) t
   same_view k t below knows =
-      let now : (x : ℕ) → slice_index_or (slice_index_or (after_rounds S k start).rows t []) x (pos 0) ≡ ρ t x = λ x.
-      ap (λ rows. slice_index_or (slice_index_or rows t []) x (pos 0)) (rows_kept S start k) ∙ table_at ρ (length trace) (length S.vars) t x below (told_past t x) in
-      let past : (x : ℕ) → slice_index_or (slice_index_or (after_rounds S k start).past t []) x (pos 0) ≡ before S ρ t x = λ x.
-      ap (λ rows. slice_index_or (slice_index_or rows t []) x (pos 0)) (past_kept S start k) ∙ table_at (before S ρ) (length trace) (length S.vars) t x below (before_past t x) in
+      let now : (x : ℕ) → slice_index_or (slice_index_or (after_rounds S ρ k start).rows t []) x (pos 0) ≡ ρ t x = λ x.
+      ap (λ rows. slice_index_or (slice_index_or rows t []) x (pos 0)) (rows_kept S ρ start k) ∙ table_at ρ (length trace) (length S.vars) t x below (told_past t x) in
+      let past : (x : ℕ) → slice_index_or (slice_index_or (after_rounds S ρ k start).past t []) x (pos 0) ≡ before S ρ t x = λ x.
+      ap (λ rows. slice_index_or (slice_index_or rows t []) x (pos 0)) (past_kept S ρ start k) ∙ table_at (before S ρ) (length trace) (length S.vars) t x below (before_past t x) in
       λ i. record { now = λ x. now x i; before = λ x. past x i; age = λ m. negsuc 0; memory = λ m. knows m i }
 
-  by_memory : (k t : ℕ) → ((j : ℕ) → j ≤ t → view_at (after_rounds S k start) j ≡ at_scan S ρ (memory_within k S ρ) j) → (o : Option tables.Memory)
-      → elim o as (λ z. Bool) [ None ↦ false | Some memory ↦ recalled S.period (after_rounds S k start) memory t ] ≡ remembered S ρ (memory_within k S ρ) o t
+  by_memory : (k t : ℕ) → ((j : ℕ) → j ≤ t → view_at (after_rounds S ρ k start) j ≡ at_scan S ρ (memory_within k S ρ) j) → (o : Option tables.Memory)
+      → elim o as (λ z. Bool) [ None ↦ false | Some memory ↦ recalled (begun S ρ t) (λ j. since S ρ j t) (after_rounds S ρ k start) memory t ]
+      ≡ remembered S ρ (memory_within k S ρ) o t
   by_memory k t same None = refl
   by_memory k t same (Some (Held name s' c hold)) =
-      same_held 0 (λ j. pos (t - j) *ℤ S.period) hold (λ j. truth (view_at (after_rounds S k start) j) c) (λ j. truth (at_scan S ρ (memory_within k S ρ) j) c) t
-      (λ j l. ap (λ V. truth V c) (same j l))
-      ∙ ap (λ from. held from (λ j. since S ρ j t) hold (λ j. truth (at_scan S ρ (memory_within k S ρ) j) c) t) (sym (begun_none t))
+      same_held (begun S ρ t) (λ j. since S ρ j t) hold (λ j. truth (view_at (after_rounds S ρ k start) j) c)
+      (λ j. truth (at_scan S ρ (memory_within k S ρ) j) c) t (λ j l. ap (λ V. truth V c) (same j l))
   by_memory k t same (Some (Hyst name s' e lo hi begin)) =
-      same_hyst 0 lo hi begin (λ j. value (view_at (after_rounds S k start) j) e) (λ j. value (at_scan S ρ (memory_within k S ρ) j) e) t
-      (λ j l. ap (λ V. value V e) (same j l))
-      ∙ ap (λ from. hyst from lo hi begin (λ j. value (at_scan S ρ (memory_within k S ρ) j) e) t) (sym (begun_none t))
+      same_hyst (begun S ρ t) lo hi begin (λ j. value (view_at (after_rounds S ρ k start) j) e)
+      (λ j. value (at_scan S ρ (memory_within k S ρ) j) e) t (λ j l. ap (λ V. value V e) (same j l))
 
   -- after so many rounds the truths are those of memories that are read through so many others
   knows : (k t : ℕ) → t < length trace → KnowsAt k t
   unfolding memory_within
   knows zero t below m = refl
   knows (suc k) t below m =
-      let long : length (after_rounds S k start).rows ≡ length trace = ap length (rows_kept S start k)
+      let long : length (after_rounds S ρ k start).rows ≡ length trace = ap length (rows_kept S ρ start k)
       ∙ length-map-range_with_len (λ t. map (ρ t) (range_with_len 0 (length S.vars))) 0 (length trace) in
       let first : 0 + t ≡ t = omega arith in
       ap (λ row. slice_index_or row m false)
-      (get_or-map-range_with_len (recalled_at S (after_rounds S k start)) 0 (length (after_rounds S k start).rows) t t [] (omega (arith, long, below)) first)
-      ∙ memory_in (λ memory. recalled S.period (after_rounds S k start) memory t) S.memories m
+      (get_or-map-range_with_len (recalled_at S ρ (after_rounds S ρ k start)) 0 (length (after_rounds S ρ k start).rows) t t [] (omega (arith, long, below)) first)
+      ∙ memory_in (λ memory. recalled (begun S ρ t) (λ j. since S ρ j t) (after_rounds S ρ k start) memory t) S.memories m
       ∙ by_memory k t (λ j l. same_view k j (omega (arith, l, below)) (knows k j (omega (arith, l, below)))) (slice_get S.memories m)
 
   may_read : (s : Side) (r : Read) → MayRead S (section_of s) r → OnSide S s r
@@ -176,7 +171,7 @@ module _ (S : Tables) (s : Side) (trace : Scans) where
   may_read side.Sof r h = h
 
   abbrev told : Seen
-  told = after_rounds S (length S.vars + length S.memories) start
+  told = after_rounds S ρ (length S.vars + length S.memories) start
 
   -- what a table gives is read from the truths that were found
   same_table : (t x : ℕ) (v : Var) (z : ℤ) → t < length trace → IsVar S (defined_kinds (section_of s)) x v

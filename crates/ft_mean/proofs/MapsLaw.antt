@@ -8,7 +8,7 @@ use Rattle.ft_core.specs.declared.tables.Var.{Var}
 use Rattle.ft_core.specs.declared.tables.Section.{Section}
 use Rattle.ft_core.specs.declared.tables.Section.TheVariants as section
 use Rattle.ft_core.specs.declared.tables.Side.TheVariants as side
-use Rattle.ft_core.specs.Kinds.{Kinds, monitored, defined_kinds, side_kinds}
+use Rattle.ft_core.specs.Kinds.{Kinds, monitored, defined_kinds, image_kinds, side_kinds}
 use Rattle.ft_mean.specs.Value.{View}
 use Rattle.ft_mean.specs.Reading.{Scans, IsListOf, IsVar, reading_of}
 use Rattle.ft_mean.specs.Memory.{look}
@@ -16,6 +16,7 @@ use Rattle.ft_mean.specs.Cells.{defined}
 use Rattle.ft_mean.specs.Proper.{AllProper}
 use Rattle.ft_mean.specs.Fits.{Maps, Only}
 use Rattle.ft_mean.specs.Laws.{HasOneImage}
+use Rattle.ft_mean.proofs.ImageLemmas.{in_image, of_image, none_given}
 use Rattle.ft_mean.proofs.WellFormed.{opened, IsWellFormed}
 use Rattle.ft_mean.proofs.Rows.{length-gathered, same_rows}
 use Rattle.ft_mean.proofs.MemoryLemmas.{look_local}
@@ -34,40 +35,43 @@ module _ (S : Tables) (wf : IsWellFormed S) (proper : AllProper S) (section : Se
   abbrev Wanted : ℕ → ℕ → ℤ → Type 0
   Wanted t x z = t < length h → IsTrue (defined S section (here t) x z)
 
-  picks : (t x : ℕ) → Pick S (defined_kinds section) (Wanted t x) x
-  picks t x = pick S wf (defined_kinds section) (Wanted t x) x (λ v is. made v is (cases_lt t (length h)))
+  picks : (t x : ℕ) → Pick S (image_kinds section) (Wanted t x) x
+  picks t x = pick S wf (image_kinds section) (Wanted t x) x (λ v is. made v (of_image S section x v is) (cases_lt t (length h)))
     where
       made : (v : Var) → IsVar S (defined_kinds section) x v → (t < length h) ⊎ (length h ≤ t) → (z : ℤ) × IsWithin v.range z × Wanted t x z
       made v is (inl below) = let one = answer_at t x v below is in (one.z, one.in_range, λ l. one.is)
       made v is (inr past) = (v.init, wf.inits x v is.0, λ l. absurd (omega (arith, l, past)))
 
   abbrev image : Scans
-  image = rows S (defined_kinds section) (λ t x. (picks t x).z) (length h)
+  image = rows S (image_kinds section) (λ t x. (picks t x).z) (length h)
 
   maps : Maps S section kinds h image
   maps =
-      let long : length image ≡ length h = length-rows S (defined_kinds section) (λ t x. (picks t x).z) (length h) in
-      let tells : (t x : ℕ) (v : Var) → t < length image → IsVar S (defined_kinds section) x v → reading_of S (defined_kinds section) image t x ≡ (picks t x).z =
-      λ t x v l is. reading-rows S (defined_kinds section) (λ t x. (picks t x).z) (length h) t x v (omega (arith, l, long)) is in
+      let long : length image ≡ length h = length-rows S (image_kinds section) (λ t x. (picks t x).z) (length h) in
+      let tells : (t x : ℕ) (v : Var) → t < length image → IsVar S (image_kinds section) x v → reading_of S (image_kinds section) image t x ≡ (picks t x).z =
+      λ t x v l is. reading-rows S (image_kinds section) (λ t x. (picks t x).z) (length h) t x v (omega (arith, l, long)) is in
       record {
         lengths = long;
         values = record {
-          widths = λ t l. ap length (row_at S (defined_kinds section) (λ t x. (picks t x).z) (length h) t (omega (arith, l, long)))
-              ∙ length-gathered (defined_kinds section) S.vars (λ x. (picks t x).z);
+          widths = λ t l. ap length (row_at S (image_kinds section) (λ t x. (picks t x).z) (length h) t (omega (arith, l, long)))
+              ∙ length-gathered (image_kinds section) S.vars (λ x. (picks t x).z);
           ranges = λ t x v l is. subst (λ z. IsWithin v.range z) (sym (tells t x v l is)) ((picks t x).in_range v is.0);
         };
-        follows = λ t l x v is. subst (λ z. IsTrue (defined S section (here t) x z)) (sym (tells t x v l is)) ((picks t x).holds v is (omega (arith, l, long)));
+        same_given = λ t x v l is other. absurd (none_given S section x v is other);
+        follows = λ t l x v is. let on = in_image S section x v is in
+            subst (λ z. IsTrue (defined S section (here t) x z)) (sym (tells t x v l on)) ((picks t x).holds v on (omega (arith, l, long)));
       }
 
   same_images : (p q : Scans) → Maps S section kinds h p → Maps S section kinds h q → p ≡ q
   same_images p q fp fq = ext_get_or [] p q (fp.lengths ∙ sym fq.lengths) (λ i below.
-      same_rows (defined_kinds section) S.vars _ _ (fp.values.widths i below) (fq.values.widths i (omega (arith, below, fp.lengths, fq.lengths)))
+      same_rows (image_kinds section) S.vars _ _ (fp.values.widths i below) (fq.values.widths i (omega (arith, below, fp.lengths, fq.lengths)))
       (λ x v is k.
-      let one = answer_at i x v (omega (arith, below, fp.lengths)) (is, k) in
-      sym (reading_at S (defined_kinds section) p i x v (is, k))
-      ∙ one.only _ (fp.follows i below x v (is, k))
-      ∙ sym (one.only _ (fq.follows i (omega (arith, below, fp.lengths, fq.lengths)) x v (is, k)))
-      ∙ reading_at S (defined_kinds section) q i x v (is, k)))
+      let on = of_image S section x v (is, k) in
+      let one = answer_at i x v (omega (arith, below, fp.lengths)) on in
+      sym (reading_at S (image_kinds section) p i x v (is, k))
+      ∙ one.only _ (fp.follows i below x v on)
+      ∙ sym (one.only _ (fq.follows i (omega (arith, below, fp.lengths, fq.lengths)) x v on))
+      ∙ reading_at S (image_kinds section) q i x v (is, k)))
 
   pub maps_one : (p : Scans) × Only (Maps S section kinds h) p
   maps_one = (image, record { is = maps; alone = λ q fq. same_images q image fq maps })

@@ -17,28 +17,26 @@ use Rattle.ft_mean.specs.Value.{truth, value}
 use Rattle.ft_mean.specs.Reading.{Reading, before, begun, since}
 use Rattle.ft_mean.specs.Memory.{at_scan, remembered, memory_within, memory_at, look}
 use Rattle.ft_mean.specs.Proper.{IsLinked, IsLocal}
-use Rattle.ft_mean.proofs.WellFormed.{IsOf, OnSide, IsOrder, IsWellFormed}
+use Rattle.ft_mean.proofs.WellFormed.{opened, IsOf, OnSide, IsOrder, IsWellFormed}
 use Rattle.ft_mean.proofs.Agree.{Same, AllSame, same_truth, same_value}
-use Rattle.ft_mean.proofs.TimeLemmas.{begun_low}
-use Rattle.ft_mean.proofs.PastLemmas.{same_held, same_hyst, held_now, hyst_up, hyst_down}
-
--- readings begin at the same scans
-begun_same : (S : Tables) (a b : Reading) (t : ℕ) → begun S a t ≡ begun S b t
-begun_same S a b zero = refl
-begun_same S a b (suc t) = begun_same S a b t
+use Rattle.ft_mean.proofs.TimeLemmas.{begun_low, SameTime, same_time}
+use Rattle.ft_mean.proofs.BegunLemmas.{begun_same, since_same, before_same, before_by}
+use Rattle.ft_mean.proofs.PastLemmas.{same_held, same_ago, same_hyst, held_now, hyst_up, hyst_down}
 
 same_remembered : (S : Tables) (a b : Reading) (inner outer : ℕ → ℕ → Bool) (o : Option tables.Memory) (t : ℕ)
-    → ((j : ℕ) → j ≤ t → AllSame (at_scan S a inner j) (at_scan S b outer j) (memory_reads o))
+    → ((j : ℕ) → j ≤ t → SameTime S a b j) → ((j : ℕ) → j ≤ t → AllSame (at_scan S a inner j) (at_scan S b outer j) (memory_reads o))
     → remembered S a inner o t ≡ remembered S b outer o t
-same_remembered S a b inner outer None t h = refl
-same_remembered S a b inner outer (Some (Held name side c hold)) t h =
+same_remembered S a b inner outer None t times h = refl
+same_remembered S a b inner outer (Some (Held name side c hold)) t times h =
     same_held (begun S a t) (λ j. since S a j t) hold (λ j. truth (at_scan S a inner j) c) (λ j. truth (at_scan S b outer j) c) t
     (λ j l. same_truth (at_scan S a inner j) (at_scan S b outer j) c (h j l))
-    ∙ ap (λ from. held from (λ j. since S b j t) hold (λ j. truth (at_scan S b outer j) c) t) (begun_same S a b t)
-same_remembered S a b inner outer (Some (Hyst name side e lo hi start)) t h =
+    ∙ same_ago (begun S a t) (λ j. since S a j t) (λ j. since S b j t) hold (λ j. truth (at_scan S b outer j) c) t
+    (λ j l. since_same S a b (opened S).goes_on j t l times)
+    ∙ ap (λ from. held from (λ j. since S b j t) hold (λ j. truth (at_scan S b outer j) c) t) (begun_same S a b t times)
+same_remembered S a b inner outer (Some (Hyst name side e lo hi start)) t times h =
     same_hyst (begun S a t) lo hi start (λ j. value (at_scan S a inner j) e) (λ j. value (at_scan S b outer j) e) t
     (λ j l. same_value (at_scan S a inner j) (at_scan S b outer j) e (h j l))
-    ∙ ap (λ from. hyst from lo hi start (λ j. value (at_scan S b outer j) e) t) (begun_same S a b t)
+    ∙ ap (λ from. hyst from lo hi start (λ j. value (at_scan S b outer j) e) t) (begun_same S a b t times)
 
 module _ (S : Tables) (rank : Read → ℕ) (order : IsOrder S rank) where
   abbrev IsSettled : Reading → ℕ → Type 0
@@ -55,7 +53,7 @@ module _ (S : Tables) (rank : Read → ℕ) (order : IsOrder S rank) where
   unfolding memory_within
   settled a zero m t h = absurd (omega (arith, h))
   settled a (suc n) m t h =
-      same_remembered S a a (memory_within n S a) (memory_within (suc n) S a) (slice_get S.memories m) t
+      same_remembered S a a (memory_within n S a) (memory_within (suc n) S a) (slice_get S.memories m) t (λ j l. same_time S a a j)
       (λ j l. settled_read a n (settled a n) m j h)
 
   -- the equation of a memory
@@ -71,8 +69,7 @@ module _ (S : Tables) (wf : IsWellFormed S) where
   -- readings that agree on a side before scan t, and at it up to a rank, agree on all of the side of a lower rank
   module _ (s : Side) (a b : Reading) (t : ℕ) (past : (j x : ℕ) → j < t → IsOf S (side_kinds s) x → a j x ≡ b j x) where
     same_before : (j x : ℕ) → j ≤ t → IsOf S (side_kinds s) x → before S a j x ≡ before S b j x
-    same_before zero x l on = refl
-    same_before (suc j) x l on = past j x l on
+    same_before j x l on = before_same S a b j x (same_time S a b j) (λ i less. past i x (omega (arith, less, l)) on)
 
     module _ (k : ℕ) (now : (x : ℕ) → IsOf S (side_kinds s) x → wf.rank (at_now x) < k → a t x ≡ b t x) where
       same_now : (j x : ℕ) → j ≤ t → IsOf S (side_kinds s) x → wf.rank (at_now x) < k → a j x ≡ b j x
@@ -96,7 +93,7 @@ module _ (S : Tables) (wf : IsWellFormed S) where
       same_memory zero top m j on low l = absurd (omega (arith, low))
       same_memory (suc n) top m j on low l =
           memory_at-is S wf.rank wf.order a m j
-          ∙ same_remembered S a b (memory_at S a) (memory_at S b) (slice_get S.memories m) j
+          ∙ same_remembered S a b (memory_at S a) (memory_at S b) (slice_get S.memories m) j (λ i l'. same_time S a b i)
           (λ i l' r c. read_same n (omega (arith, top)) m on low (λ q i' o below m'. same_memory n (omega (arith, top)) q i' o below m') i (omega (arith, l, l')) r c)
           ∙ sym (memory_at-is S wf.rank wf.order b m j)
 
@@ -114,7 +111,7 @@ module _ (S : Tables) (wf : IsWellFormed S) where
   ageless s a t (of_age m) on = absurd on
 
   -- what a reading tells of a memory is linked
-  linked : (a : Reading) (t m : ℕ) (memory : tables.Memory) → slice_get S.memories m ≡ Some memory → IsLinked (look S a t) m memory
+  pub linked : (a : Reading) (t m : ℕ) (memory : tables.Memory) → slice_get S.memories m ≡ Some memory → IsLinked (look S a t) m memory
   linked a t m (Held name side c hold) there = λ e.
       sym (same_truth (at_scan S a (memory_at S a) t) (look S a t) c (λ r k. ageless side a t r (wf.memories_read m _ r there k)))
       ∙ held_now (begun S a t) (λ j. since S a j t) hold (λ j. truth (at_scan S a (memory_at S a) j) c) t
@@ -128,8 +125,9 @@ module _ (S : Tables) (wf : IsWellFormed S) where
 
   range_before : (a : Reading) (t : ℕ) → ((j x : ℕ) (v : Var) → j ≤ t → slice_get S.vars x ≡ Some v → IsWithin v.range (a j x))
       → (x : ℕ) (v : Var) → slice_get S.vars x ≡ Some v → IsWithin v.range (before S a t x)
-  range_before a zero range x v is = subst (λ o. IsWithin v.range (elim o as (λ z. ℤ) [ None ↦ pos 0 | Some u ↦ u.init ])) (sym is) (wf.inits x v is)
-  range_before a (suc t) range x v is = range t x v (omega arith) is
+  range_before a t range x v is = before_by S a (IsWithin v.range) t x
+      (subst (λ o. IsWithin v.range (elim o as (λ z. ℤ) [ None ↦ pos 0 | Some u ↦ u.init ])) (sym is) (wf.inits x v is))
+      (λ k at. range k x v (omega (arith, at)) is)
 
   -- a reading in range gives a local view at each of its scans
   pub look_local : (a : Reading) (t : ℕ) → ((j x : ℕ) (v : Var) → j ≤ t → slice_get S.vars x ≡ Some v → IsWithin v.range (a j x))

@@ -1,8 +1,9 @@
 -- Along every reading each memory makes its move at each scan, and no other.
-use Rattle.std.proofs.Common.{◌≡◌, ◌∙◌, sym, ap, subst, refl, ℕ, zero, suc, ℤ, pos, negsuc, ◌≤ℤ◌, ◌<ℤ◌, Bool, true, false, cond, List, Some, slice_get, arith}
+use Rattle.std.proofs.Common.{◌≡◌, ◌∙◌, sym, ap, subst, refl, ℕ, zero, suc, ℤ, pos, negsuc, ◌≤ℤ◌, ◌<ℤ◌, Bool, true, false, cond, List, Some, slice_get, arith, ⊎_elim}
 use Rattle.std.specs.Prelude.{int_le}
 use Rattle.std.specs.Ordering.{int_eq}
 use Rattle.std.proofs.lemmas.Int.{ints}
+use Rattle.std.proofs.lemmas.Bool.{cases_Bool}
 use Rattle.ft_base.specs.Interval.{IsWithin}
 use Rattle.ft_core.specs.declared.tables.Tables.{Tables}
 use Rattle.ft_core.specs.declared.tables.Side.{Side}
@@ -20,6 +21,7 @@ use Rattle.ft_mean.proofs.Agree.{same_truth, same_value}
 use Rattle.ft_mean.proofs.PastLemmas.{next_bit, hyst_first, hyst_next}
 use Rattle.ft_mean.proofs.AgeLemmas.{next_age, age_first, age_next, age_span, held_is}
 use Rattle.ft_mean.proofs.TimeLemmas.{elapsed_up, since_none, since_next, since_up, since_falls, begun_low, begun_here, begun_past}
+use Rattle.ft_mean.proofs.BegunLemmas.{later}
 use Rattle.ft_mean.proofs.MemoryLemmas.{memory_at-is, ageless}
 
 -- the moves of ages and bits, and that no other number comes by them
@@ -93,8 +95,11 @@ module _ (S : Tables) (wf : IsWellFormed S) (ρ : Reading) (m : ℕ) where
     age_at anew t = cond anew (cond (condition t) (pos 0) (negsuc 0)) (next_age hold (elapsed S (ρ t)) (old (scan_before t)) (condition t))
 
     old_is : (t : ℕ) → old t ≡ age_at (begins S ρ t) t
-    old_is zero = old_begins zero refl
-    old_is (suc t) = old_later t refl
+    old_is t = ⊎_elim
+        (λ is. old_begins t is ∙ ap (λ anew. age_at anew t) (sym is))
+        (λ is. let k = later S ρ t is in
+        subst (λ j. old j ≡ age_at false j) (sym k.1) (old_later k.0 (ap (begins S ρ) (sym k.1) ∙ is)) ∙ ap (λ anew. age_at anew t) (sym is))
+        (cases_Bool (begins S ρ t))
 
     age_comes : (anew : Bool) (t : ℕ) → cond anew (age_begins (condition t) (age_at anew t))
         (age_goes_on (elapsed S (ρ t)) hold (condition t) (old (scan_before t)) (age_at anew t)) ≡ true
@@ -116,11 +121,19 @@ module _ (S : Tables) (wf : IsWellFormed S) (ρ : Reading) (m : ℕ) where
     abbrev bit_before : ℕ → Bool
     bit_before t = cond (begins S ρ t) start (side (scan_before t))
 
-    side_is : (t : ℕ) → side t ≡ next_bit lo hi (bit_before t) (term t)
-    side_is zero = hyst_first lo hi start term zero
-    side_is (suc t) =
+    side_later : (t : ℕ) → begins S ρ (suc t) ≡ false → side (suc t) ≡ next_bit lo hi (side t) (term (suc t))
+    side_later t is =
         let low = begun_low S ρ t in
-        ap (λ from. hyst from lo hi start term (suc t)) (begun_past S ρ t refl) ∙ hyst_next lo hi start term (begun S ρ t) t (omega (arith, low))
+        ap (λ from. hyst from lo hi start term (suc t)) (begun_past S ρ t is) ∙ hyst_next lo hi start term (begun S ρ t) t (omega (arith, low))
+
+    side_is : (t : ℕ) → side t ≡ next_bit lo hi (bit_before t) (term t)
+    side_is t = ⊎_elim
+        (λ is. ap (λ from. hyst from lo hi start term t) (begun_here S ρ t is) ∙ hyst_first lo hi start term t
+        ∙ ap (λ anew. next_bit lo hi (cond anew start (side (scan_before t))) (term t)) (sym is))
+        (λ is. let k = later S ρ t is in
+        subst (λ j. side j ≡ next_bit lo hi (side (scan_before j)) (term j)) (sym k.1) (side_later k.0 (ap (begins S ρ) (sym k.1) ∙ is))
+        ∙ ap (λ anew. next_bit lo hi (cond anew start (side (scan_before t))) (term t)) (sym is))
+        (cases_Bool (begins S ρ t))
 
   moves_held : (name : List ℕ) (s : Side) (c : Cond) (hold : ℤ) → slice_get S.memories m ≡ Some (Held name s c hold) → (t : ℕ) → MovesAt S ρ m (Held name s c hold) t
   moves_held name s c hold is t =

@@ -19,13 +19,14 @@ use Rattle.ft_core.specs.declared.term.Term.TheVariants.{Num, Now, Prev, Add, Di
 use Rattle.ft_core.specs.declared.term.Cond.{Cond}
 use Rattle.ft_core.specs.declared.term.Cond.TheOpen as cl
 use Rattle.ft_core.specs.declared.term.Cond.TheVariants.{Yes, Compare, Memory as Recalled, Not, And, rolls-Yes, rolls-Compare, rolls-Memory, rolls-Not, rolls-And}
-use Rattle.ft_core.specs.Kinds.{Kinds, defined_kinds, of_kind, is_of, place_of}
+use Rattle.ft_core.specs.Kinds.{Kinds, after_first, defined_kinds, of_kind, is_of, place_of}
 use Rattle.ft_core.specs.Grids.{cells_for, is_section, is_for, is_shaped}
 use Rattle.ft_core.specs.Reads.{Read, at_now, at_before, of_memory, of_age, term_reads, cond_reads, memory_reads, grid_reads, cell_reads}
 use Rattle.ft_core.specs.Size.{is_sized_memory, is_sized_grid}
 use Rattle.ft_core.specs.Sound.{IsSound, side_of, may_read, on_side, is_current, item_reads}
-use Rattle.ft_core.proofs.TermLemmas.{reads-rolled, cond_reads-rolled}
+use Rattle.ft_core.specs.Equations.{reads-rolled, cond_reads-rolled}
 use Rattle.ft_mean.specs.OneColumn.{OneColumn, normal}
+pub use Rattle.ft_mean.specs.OneColumnTests.{all_sections, are_below, both_for, have_table, are_apart, on_a_side, own_reads, keeps_limits, rank, is_lower, part_falls, Passes}
 use Rattle.ft_mean.proofs.Passes.{each, passes, all_pass, mapped, from_one, asked, is_within, within}
 
 pub reads-Num : (n : ℤ) → term_reads (Num n) ≡ []
@@ -60,25 +61,17 @@ reads-And a b = cond_reads-rolled _ (cl.And a b) (rolls-And a b)
 
 pub ruleset reading = (reads-Num, reads-Now, reads-Prev, reads-Add, reads-Div, reads-Yes, reads-Compare, reads-Recalled, reads-Not, reads-And)
 
-pub declared : (kinds : Kinds) (test : ℕ → Bool) (vs : List Var) → each (λ x v. test x || not (kinds v.kind)) vs ≡ true → (x : ℕ) → is_of vs kinds x ≡ true → test x ≡ true
+pub declared : (kinds : Kinds) (test : ℕ → Bool) (vs : List Var) → each (λ x v. test x || not (kinds x v)) vs ≡ true → (x : ℕ) → is_of vs kinds x ≡ true → test x ≡ true
 declared kinds test [] h x e = absurd (true≢false (sym e))
-declared kinds test (v ∷ vs) h zero e = asked (test 0) (kinds v.kind) (and_parts (test 0 || not (kinds v.kind)) (each (λ x v. test (suc x) || not (kinds v.kind)) vs) h).0 e
+declared kinds test (v ∷ vs) h zero e = asked (test 0) (kinds 0 v) (and_parts (test 0 || not (kinds 0 v)) (each (λ x v. test (suc x) || not (kinds (suc x) v)) vs) h).0 e
 declared kinds test (v ∷ vs) h (suc x) e =
-    declared kinds (λ k. test (suc k)) vs (and_parts (test 0 || not (kinds v.kind)) (each (λ x v. test (suc x) || not (kinds v.kind)) vs) h).1 x e
-
--- whether a test passes for each section
-abbrev pub all_sections : (Section → Bool) → Bool
-all_sections test = test section.In && (test section.Req && (test section.Sof && test section.Out))
+    declared (after_first kinds) (λ k. test (suc k)) vs (and_parts (test 0 || not (kinds 0 v)) (each (λ x v. test (suc x) || not (kinds (suc x) v)) vs) h).1 x e
 
 of_section : (test : Section → Bool) → all_sections test ≡ true → (s : Section) → test s ≡ true
 of_section test h section.In = (and_parts (test section.In) _ h).0
 of_section test h section.Req = (and_parts (test section.Req) _ (and_parts (test section.In) _ h).1).0
 of_section test h section.Sof = (and_parts (test section.Sof) _ (and_parts (test section.Req) _ (and_parts (test section.In) _ h).1).1).0
 of_section test h section.Out = (and_parts (test section.Sof) _ (and_parts (test section.Req) _ (and_parts (test section.In) _ h).1).1).1
-
--- whether each of these ranks is below a number
-abbrev pub are_below : ℕ → List ℕ → Bool
-are_below n ranks = each (λ k a. int_lt (pos a) (pos n)) ranks
 
 rank_below : (n : ℕ) → 0 < n → (ranks : List ℕ) → are_below n ranks ≡ true → (x : ℕ) → slice_index_or ranks x 0 < n
 rank_below n some [] h x = some
@@ -88,66 +81,6 @@ rank_below n some (a ∷ ranks) h (suc x) = rank_below n some ranks (and_parts (
 read-where : (b : Bool) (reads : List Read) (q : Read) → Contains (if b then reads else []) q → (b ≡ true) × Contains reads q
 read-where true reads q c = (refl, c)
 read-where false reads q c = absurd (omega (arith, c.1))
-
--- whether two tables define one variable of a section
-abbrev pub both_for : Section → OneColumn → OneColumn → Bool
-both_for s p q = is_section p.section s && (is_section q.section s && (p.target == q.target))
-
--- whether each variable that a section defines has a table there
-abbrev pub have_table : List Var → List Table → Section → Bool
-have_table vars tables s = each (λ x v. list_any (is_for s x) tables || not (defined_kinds s v.kind)) vars
-
--- whether no two tables define one variable of a section
-abbrev pub are_apart : List OneColumn → Section → Bool
-are_apart parts s = each (λ k p. each (λ l q. (k == l) || not (both_for s p q)) parts) parts
-
-abbrev pub on_a_side : OneColumn → Bool
-on_a_side p = is_section p.section section.Req || is_section p.section section.Sof
-
--- what the cells for a variable read
-abbrev pub own_reads : ℕ → Table → List Read
-own_reads x table = flat_map cell_reads (cells_for x table.grid)
-
-abbrev pub keeps_limits : Memory → Bool
-keeps_limits (Held name s c hold) = is_within (pos 0, pos 1000000) hold
-keeps_limits (Hyst name s e lo hi start) = int_lt lo hi
-
--- the ranks of the variables and of the memories; what is of no scan or is not there has none
-abbrev pub rank : (of_vars of_memories : List ℕ) → Read → ℕ
-rank of_vars of_memories (at_now x) = slice_index_or of_vars x 0
-rank of_vars of_memories (of_memory m) = slice_index_or of_memories m 0
-rank of_vars of_memories _ = 0
-
--- whether what is read at the same scan has a lower rank
-abbrev pub is_lower : (of_vars of_memories : List ℕ) → ℕ → Read → Bool
-is_lower of_vars of_memories level q = int_lt (pos (rank of_vars of_memories q)) (pos level) || not (is_current q)
-
--- what a table of a side reads at the same scan has a lower rank than what it defines
-abbrev pub part_falls : (of_vars of_memories : List ℕ) → OneColumn → Bool
-part_falls of_vars of_memories p =
-    list_all (is_lower of_vars of_memories (rank of_vars of_memories (at_now p.target))) (own_reads p.target (normal p)) || not (on_a_side p)
-
--- the tests, with ranks for the variables and the memories
-pub record Passes (period : ℤ) (vars : List Var) (memories : List Memory) (parts : List OneColumn) (of_vars of_memories : List ℕ) : Type 0 where
-  pub some_vars : 0 < length vars + length memories
-  pub few_vars : length vars ≤ 1100
-  pub few_memories : length memories ≤ 200
-  pub few_tables : length (map normal parts) ≤ 400
-  pub period_fits : is_within (pos 1, pos 10000) period ≡ true
-  pub places : each (λ x v. v.place == place_of (of_kind v.kind) vars x) vars ≡ true
-  pub inits : each (λ x v. is_within v.range v.init) vars ≡ true
-  pub limits : each (λ m memory. keeps_limits memory) memories ≡ true
-  pub shapes : list_all (λ table. is_shaped table.grid) (map normal parts) ≡ true
-  pub sized_memories : list_all (is_sized_memory vars memories) memories ≡ true
-  pub sized_tables : list_all (λ table. is_sized_grid vars memories table.grid) (map normal parts) ≡ true
-  pub tables_read : each (λ k table. list_all (may_read vars memories table.section) (grid_reads table.grid)) (map normal parts) ≡ true
-  pub memories_read : each (λ m memory. list_all (on_side vars memories (side_of memory)) (memory_reads (Some memory))) memories ≡ true
-  pub has_table : all_sections (λ s. have_table vars (map normal parts) s) ≡ true
-  pub apart : all_sections (λ s. are_apart parts s) ≡ true
-  pub vars_below : are_below (length vars + length memories) of_vars ≡ true
-  pub memories_below : are_below (length vars + length memories) of_memories ≡ true
-  pub tables_fall : each (λ k p. part_falls of_vars of_memories p) parts ≡ true
-  pub memories_fall : each (λ m memory. list_all (is_lower of_vars of_memories (rank of_vars of_memories (of_memory m))) (memory_reads (Some memory))) memories ≡ true
 
 module _ (period : ℤ) (vars : List Var) (memories : List Memory) (parts : List OneColumn) (of_vars of_memories : List ℕ) (P : Passes period vars memories parts of_vars of_memories) where
   abbrev tables : List Table

@@ -91,11 +91,11 @@ module _ (S : Tables) (wf : IsWellFormed S) where
   module _ (s : Side) where
     -- a variable of the side is given or defined
     pub given_or_defined : (x : ℕ) (v : Var) → IsVar S (side_kinds s) x v → IsVar S (given_kinds s) x v ⊎ IsVar S (defined_kinds (section_of s)) x v
-    given_or_defined x v is = ⊎_elim (λ g. inl (is.0, g)) (λ d. inr (is.0, d)) (or_cases (given_kinds s v.kind) (defined_kinds (section_of s) v.kind) is.1)
+    given_or_defined x v is = ⊎_elim (λ g. inl (is.0, g)) (λ d. inr (is.0, d)) (or_cases (given_kinds s x v) (defined_kinds (section_of s) x v) is.1)
 
     -- and the other way round
     pub on_side : (x : ℕ) (v : Var) → IsVar S (defined_kinds (section_of s)) x v → IsVar S (side_kinds s) x v
-    on_side x v is = (is.0, or_right (given_kinds s v.kind) (defined_kinds (section_of s) v.kind) is.1)
+    on_side x v is = (is.0, or_right (given_kinds s x v) (defined_kinds (section_of s) x v) is.1)
 
     may_read : (s : Side) (r : Read) → MayRead S (section_of s) r → OnSide S s r
     may_read side.Req r h = h

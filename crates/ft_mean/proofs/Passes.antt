@@ -6,11 +6,7 @@ use Rattle.std.proofs.lemmas.Bool.{and_parts}
 use Rattle.std.proofs.lemmas.List.Elements.{Contains-append_cases}
 use Rattle.std.proofs.lemmas.Option.{none-some, same_Some}
 use Rattle.ft_base.specs.Interval.{IsWithin}
-
--- whether a test passes at each element of a list, with its place
-abbrev pub each : {A : Type 0} → (ℕ → A → Bool) → List A → Bool
-each test [] = true
-each test (a ∷ xs) = test 0 a && each (λ k. test (suc k)) xs
+pub use Rattle.ft_mean.specs.OneColumnTests.{each, is_within}
 
 pub passes : {A : Type 0} (test : ℕ → A → Bool) (xs : List A) → each test xs ≡ true → (k : ℕ) (a : A) → slice_get xs k ≡ Some a → test k a ≡ true
 passes test [] h k a e = absurd (none-some a e)
@@ -42,9 +38,6 @@ pub asked : (a b : Bool) → (a || not b) ≡ true → b ≡ true → a ≡ true
 asked true b h e = refl
 asked false true h e = h
 asked false false h e = e
-
-abbrev pub is_within : ℤ × ℤ → ℤ → Bool
-is_within range z = int_le range.0 z && int_le z range.1
 
 pub within : (range : ℤ × ℤ) (z : ℤ) → is_within range z ≡ true → IsWithin range z
 within range z h = let both = and_parts (int_le range.0 z) (int_le z range.1) h in (omega (arith, ints, both.0), omega (arith, ints, both.1))

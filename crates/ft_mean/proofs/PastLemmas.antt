@@ -6,6 +6,7 @@ use Rattle.std.proofs.lemmas.Int.{ints}
 use Rattle.std.proofs.lemmas.Bool.{and_parts, or_cases, cases_eq, cases_lt}
 use Rattle.std.proofs.lemmas.List.{reverse-append}
 use Rattle.ft_mean.specs.Past.{scans, held, hyst}
+pub use Rattle.ft_mean.specs.PastLaws.{next_bit}
 
 module _ (p q : ℕ → Bool) where
   pub same_any : (a n : ℕ) → ((j : ℕ) → a ≤ j → j < a + n → p j ≡ q j) → list_any p (range_with_len a n) ≡ list_any q (range_with_len a n)
@@ -27,6 +28,12 @@ pub same_held : (from : ℕ) (ago : ℕ → ℤ) (hold : ℤ) (p q : ℕ → Boo
     → held from ago hold p t ≡ held from ago hold q t
 same_held from ago hold p q t h = same_any _ _ from (suc t - from) (λ j low high. ap (λ b. int_le hold (ago j) && b)
     (same_all p q j (suc t - j) (λ k below above. h k (omega arith))))
+
+-- and how long ago these are
+pub same_ago : (from : ℕ) (ago its : ℕ → ℤ) (hold : ℤ) (p : ℕ → Bool) (t : ℕ) → ((j : ℕ) → j ≤ t → ago j ≡ its j)
+    → held from ago hold p t ≡ held from its hold p t
+same_ago from ago its hold p t h = same_any _ _ from (suc t - from) (λ j low high.
+    ap (λ z. int_le hold z && list_all p (scans j t)) (h j (omega (arith, low, high))))
 
 -- the last scan is put at the end
 pub range_more : (a n : ℕ) → range_with_len a (suc n) ≡ range_with_len a n ++ (a + n) ∷ []
@@ -116,10 +123,6 @@ pub hyst_down : (from : ℕ) (lo hi : ℤ) (start : Bool) (e : ℕ → ℤ) (t :
 hyst_down from lo hi start e t low below down =
     let other = not_up lo hi (e t) below down in
     let end = hyst_end from lo hi start e t low in end.1 ∙ (λ i. cond (other i || down i) (other i) end.0)
-
--- the bit one scan later
-abbrev pub next_bit : (lo hi : ℤ) → (before : Bool) → (now : ℤ) → Bool
-next_bit lo hi before now = cond (int_le hi now || int_le now lo) (int_le hi now) before
 
 module _ (lo hi : ℤ) (start : Bool) (e : ℕ → ℤ) where
   -- a band goes on by one scan

@@ -16,26 +16,11 @@ use Rattle.ft_core.specs.declared.term.Cond.TheVariants.{Yes}
 use Rattle.ft_core.specs.Grids.{Cell, cells_for, defines, row_cells}
 use Rattle.ft_mean.specs.Cells.{holding, cell_holds}
 use Rattle.ft_mean.specs.OneColumn.{OneColumn, normal}
+pub use Rattle.ft_mean.specs.OneColumnTests.{one_of, RowsFit, OneRow, InRanges, range_at, AllOneRow}
 use Rattle.ft_mean.specs.Proper.{HasOneCell, AllProper}
 use Rattle.ft_mean.specs.Value.{View, value, truth}
 use Rattle.ft_mean.proofs.Agree.{truth-Yes}
 use Rattle.ft_mean.proofs.Passes.{mapped}
-
--- whether exactly one of these is true
-abbrev pub one_of : List Bool → Bool
-one_of [] = false
-one_of (true ∷ bs) = list_all not bs
-one_of (false ∷ bs) = one_of bs
-
--- the term of each row that holds is in range
-abbrev pub RowsFit : View → ℤ × ℤ → List (Cond × Term) → Type 0
-RowsFit V range [] = Unit
-RowsFit V range (r ∷ rows) = (truth V r.0 ≡ true → IsWithin range (value V r.1)) × RowsFit V range rows
-
--- exactly one row holds, and its term is in range
-pub record OneRow (V : View) (range : ℤ × ℤ) (rows : List (Cond × Term)) : Type 0 where
-  pub one : one_of (map (λ r. truth V r.0) rows) ≡ true
-  pub fits : RowsFit V range rows
 
 -- the cell of a row
 abbrev cell : (row target : ℕ) → Cond × Term → Cell
@@ -105,20 +90,6 @@ module _ (V : View) (range : ℤ × ℤ) where
   one_holds : (n target : ℕ) (rows : List (Cond × Term)) → one_of (map (λ r. truth V r.0) rows) ≡ true → RowsFit V range rows → HasOneCell V (cells_from n target rows) range
   one_holds n target [] one fits = absurd (true≢false (sym one))
   one_holds n target (r ∷ rows) one fits = from_first n target r rows (truth V r.0) refl fits.0 one (λ e. one_holds (n + 1) target rows e fits.1)
-
--- every variable in range, now and before
-pub record InRanges (vars : List Var) (V : View) : Type 0 where
-  pub now : (x : ℕ) (v : Var) → slice_get vars x ≡ Some v → IsWithin v.range (V.now x)
-  pub before : (x : ℕ) (v : Var) → slice_get vars x ≡ Some v → IsWithin v.range (V.before x)
-
--- the range of the variable at this place
-abbrev pub range_at : List Var → ℕ → ℤ × ℤ
-range_at vars x = elim (slice_get vars x) [ None ↦ (pos 0, pos 0) | Some v ↦ v.range ]
-
--- in each of these tables exactly one row holds, and its term is in the range of what the table defines
-abbrev pub AllOneRow : List Var → View → List OneColumn → Type 0
-AllOneRow vars V [] = Unit
-AllOneRow vars V (p ∷ parts) = OneRow V (range_at vars p.target) p.rows × AllOneRow vars V parts
 
 row_of : (vars : List Var) (V : View) (parts : List OneColumn) → AllOneRow vars V parts → (k : ℕ) (p : OneColumn) → slice_get parts k ≡ Some p → OneRow V (range_at vars p.target) p.rows
 row_of vars V [] all k p e = absurd (none-some p e)

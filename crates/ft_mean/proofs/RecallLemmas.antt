@@ -7,6 +7,7 @@ use Rattle.ft_core.specs.declared.tables.Var.{Var}
 use Rattle.ft_core.specs.declared.tables.Memory.{Memory}
 use Rattle.ft_core.specs.Size.{var_size}
 use Rattle.ft_mean.specs.declared.seen.Seen.{Seen}
+use Rattle.ft_mean.specs.Reading.{Reading}
 use Rattle.ft_mean.specs.Safe.{IsSafeBy}
 use Rattle.ft_mean.specs.Seen.{view_at, recalled_at, after_rounds}
 use Rattle.std.proofs.lemmas.List.{map-append}
@@ -41,11 +42,11 @@ module _ (p : ℕ → Bool) where
       let more : k + 1 - 0 ≡ k + 1 = omega arith in
       sym (ap (λ n. list_all p (range_with_len 0 n)) more) ∙ all_next 0 k (omega arith) (ap (λ n. list_all p (range_with_len 0 n)) now ∙ h) here
 
-  pub none_next : (k : ℕ) → list_any p (range_with_len 0 k) ≡ false → p k ≡ false → list_any p (range_with_len 0 (k + 1)) ≡ false
-  none_next k h here =
-      let more : k + 1 ≡ suc k = omega arith in
-      let last : 0 + k ≡ k = omega arith in
-      ap (λ n. list_any p (range_with_len 0 n)) more ∙ ap (list_any p) (range_more 0 k) ∙ list_any-append p (range_with_len 0 k) ((0 + k) ∷ [])
+  pub none_next : (a k : ℕ) → a ≤ k → list_any p (range_with_len a (k - a)) ≡ false → p k ≡ false → list_any p (range_with_len a (k + 1 - a)) ≡ false
+  none_next a k low h here =
+      let more : k + 1 - a ≡ suc (k - a) = omega (arith, low) in
+      let last : a + (k - a) ≡ k = omega (arith, low) in
+      ap (λ n. list_any p (range_with_len a n)) more ∙ ap (list_any p) (range_more a (k - a)) ∙ list_any-append p (range_with_len a (k - a)) ((a + (k - a)) ∷ [])
       ∙ (λ i. h i || ((ap p last ∙ here) i || false))
 
   pub some_at : (a n k : ℕ) → a ≤ k → k < a + n → p k ≡ true → list_any p (range_with_len a n) ≡ true
@@ -55,27 +56,30 @@ module _ (p : ℕ → Bool) where
       (λ most. let is : a ≡ k = omega (arith, low, most) in or_left (p a) (list_any p (range_with_len (a + 1) n)) (ap p is ∙ h))
       (cases_lt a k)
 
-module _ (lo hi : ℤ) (start : Bool) (e : ℕ → ℤ) where
+module _ (lo hi : ℤ) (start : Bool) (e : ℕ → ℤ) (from k back : ℕ) (below : back < suc k - from) where
+  -- what those that are left without the last say
+  abbrev rest : Bool
+  rest = band lo hi start e (reverse (range_with_len from (suc k - from - (back + 1))))
+
   -- the last scan of those that are left
-  pub band_last : (k back : ℕ) → back < suc k → band lo hi start e (reverse (range_with_len 0 (suc k - back)))
-      ≡ cond (int_le hi (e (k - back)) || int_le (e (k - back)) lo) (int_le hi (e (k - back))) (band lo hi start e (reverse (range_with_len 0 (suc k - (back + 1)))))
-  band_last k back low =
-      let whole : suc k - back ≡ suc (k - back) = omega (arith, low) in
-      let rest : k - back ≡ suc k - (back + 1) = omega (arith, low) in
-      let last : 0 + (k - back) ≡ k - back = omega arith in
-      ap (λ n. band lo hi start e (reverse (range_with_len 0 n))) whole ∙ band_next lo hi start e 0 (k - back)
-      ∙ (λ i. cond (int_le hi (e (last i)) || int_le (e (last i)) lo) (int_le hi (e (last i))) (band lo hi start e (reverse (range_with_len 0 (rest i)))))
+  pub band_last : band lo hi start e (reverse (range_with_len from (suc k - from - back)))
+      ≡ cond (int_le hi (e (k - back)) || int_le (e (k - back)) lo) (int_le hi (e (k - back))) rest
+  band_last =
+      let whole : suc k - from - back ≡ suc (suc k - from - (back + 1)) = omega (arith, below) in
+      let last : from + (suc k - from - (back + 1)) ≡ k - back = omega (arith, below) in
+      ap (λ n. band lo hi start e (reverse (range_with_len from n))) whole ∙ band_next lo hi start e from (suc k - from - (back + 1))
+      ∙ (λ i. cond (int_le hi (e (last i)) || int_le (e (last i)) lo) (int_le hi (e (last i))) rest)
 
-  pub band_up : (k back : ℕ) → back < suc k → int_le hi (e (k - back)) ≡ true → band lo hi start e (reverse (range_with_len 0 (suc k - back))) ≡ true
-  band_up k back low up = band_last k back low ∙ (λ i. cond (up i || int_le (e (k - back)) lo) (up i) (band lo hi start e (reverse (range_with_len 0 (suc k - (back + 1))))))
+  pub band_up : int_le hi (e (k - back)) ≡ true → band lo hi start e (reverse (range_with_len from (suc k - from - back))) ≡ true
+  band_up up = band_last ∙ (λ i. cond (up i || int_le (e (k - back)) lo) (up i) rest)
 
-  pub band_down : (k back : ℕ) → back < suc k → int_le hi (e (k - back)) ≡ false → int_le (e (k - back)) lo ≡ true
-      → band lo hi start e (reverse (range_with_len 0 (suc k - back))) ≡ false
-  band_down k back low up down = band_last k back low ∙ (λ i. cond (up i || down i) (up i) (band lo hi start e (reverse (range_with_len 0 (suc k - (back + 1))))))
+  pub band_down : int_le hi (e (k - back)) ≡ false → int_le (e (k - back)) lo ≡ true
+      → band lo hi start e (reverse (range_with_len from (suc k - from - back))) ≡ false
+  band_down up down = band_last ∙ (λ i. cond (up i || down i) (up i) rest)
 
-  pub band_between : (k back : ℕ) → back < suc k → int_le hi (e (k - back)) ≡ false → int_le (e (k - back)) lo ≡ false
-      → band lo hi start e (reverse (range_with_len 0 (suc k - back))) ≡ band lo hi start e (reverse (range_with_len 0 (suc k - (back + 1))))
-  band_between k back low up down = band_last k back low ∙ (λ i. cond (up i || down i) (up i) (band lo hi start e (reverse (range_with_len 0 (suc k - (back + 1))))))
+  pub band_between : int_le hi (e (k - back)) ≡ false → int_le (e (k - back)) lo ≡ false
+      → band lo hi start e (reverse (range_with_len from (suc k - from - back))) ≡ rest
+  band_between up down = band_last ∙ (λ i. cond (up i || down i) (up i) rest)
 
 -- a list of what is made for each number goes on by one
 pub made_next : {A : Type 0} (f : ℕ → A) (made longer : List A) (k : ℕ) (item : A) → made ≡ map f (range_with_len 0 k) → item ≡ f k → longer ≡ made ++ item ∷ []
@@ -86,13 +90,13 @@ made_next f made longer k item is here goes_on =
     goes_on ∙ (λ i. is i ++ here i ∷ []) ∙ sym (ap (λ n. map f (range_with_len 0 n)) more ∙ ap (map f) (range_more 0 k) ∙ map-append f (range_with_len 0 k) ((0 + k) ∷ []) ∙ ap (λ n. map f (range_with_len 0 k) ++ f n ∷ []) last)
 
 -- one more round
-pub round_next : (S : Tables) (start seen : Seen) (k : ℕ) (bits : List (List Bool)) → seen ≡ after_rounds S k start
-    → bits ≡ map (recalled_at S seen) (range_with_len 0 (length seen.rows)) → record { rows = seen.rows; past = seen.past; bits = bits } ≡ after_rounds S (k + 1) start
-round_next S start seen k bits is here =
+pub round_next : (S : Tables) (ρ : Reading) (start seen : Seen) (k : ℕ) (bits : List (List Bool)) → seen ≡ after_rounds S ρ k start
+    → bits ≡ map (recalled_at S ρ seen) (range_with_len 0 (length seen.rows)) → record { rows = seen.rows; past = seen.past; bits = bits } ≡ after_rounds S ρ (k + 1) start
+round_next S ρ start seen k bits is here =
     let more : k + 1 ≡ suc k = omega arith in
     (λ i. record { rows = seen.rows; past = seen.past; bits = here i })
-    ∙ (λ i. record { rows = (is i).rows; past = (is i).past; bits = map (recalled_at S (is i)) (range_with_len 0 (length (is i).rows)) })
-    ∙ sym (ap (λ n. after_rounds S n start) more)
+    ∙ (λ i. record { rows = (is i).rows; past = (is i).past; bits = map (recalled_at S ρ (is i)) (range_with_len 0 (length (is i).rows)) })
+    ∙ sym (ap (λ n. after_rounds S ρ n start) more)
 
 -- what is safe at a scan is safe whatever the truths of the memories are
 pub safe_again : (before after : Seen) {test : List Var → List Memory → Bool} → ((t : ℕ) → IsSafeBy (view_at before t) test)
@@ -108,25 +112,25 @@ safe_again before after safe rows past t = let s = safe t in record {
   small = s.small;
 }
 
-module _ (S : Tables) (start : Seen) where
+module _ (S : Tables) (ρ : Reading) (start : Seen) where
   -- rounds change the truths of memories alone
-  pub rows_kept : (k : ℕ) → (after_rounds S k start).rows ≡ start.rows
+  pub rows_kept : (k : ℕ) → (after_rounds S ρ k start).rows ≡ start.rows
   rows_kept zero = refl
   rows_kept (suc k) = rows_kept k
 
-  pub past_kept : (k : ℕ) → (after_rounds S k start).past ≡ start.past
+  pub past_kept : (k : ℕ) → (after_rounds S ρ k start).past ≡ start.past
   past_kept zero = refl
   past_kept (suc k) = past_kept k
 
-  pub safe_after : {test : List Var → List Memory → Bool} (k : ℕ) → ((t : ℕ) → IsSafeBy (view_at start t) test) → (t : ℕ) → IsSafeBy (view_at (after_rounds S k start) t) test
-  safe_after k h = safe_again start (after_rounds S k start) h (rows_kept k) (past_kept k)
+  pub safe_after : {test : List Var → List Memory → Bool} (k : ℕ) → ((t : ℕ) → IsSafeBy (view_at start t) test) → (t : ℕ) → IsSafeBy (view_at (after_rounds S ρ k start) t) test
+  safe_after k h = safe_again start (after_rounds S ρ k start) h (rows_kept k) (past_kept k)
 
-  pub rounds_join : (m n : ℕ) → after_rounds S m (after_rounds S n start) ≡ after_rounds S (m + n) start
-  rounds_join zero n = let none : n ≡ 0 + n = omega arith in ap (λ k. after_rounds S k start) none
+  pub rounds_join : (m n : ℕ) → after_rounds S ρ m (after_rounds S ρ n start) ≡ after_rounds S ρ (m + n) start
+  rounds_join zero n = let none : n ≡ 0 + n = omega arith in ap (λ k. after_rounds S ρ k start) none
   rounds_join (suc m) n =
       let more : suc (m + n) ≡ suc m + n = omega arith in
-      ap (λ (p : Seen). record { rows = p.rows; past = p.past; bits = map (recalled_at S p) (range_with_len 0 (length p.rows)) }) (rounds_join m n)
-      ∙ ap (λ k. after_rounds S k start) more
+      ap (λ (p : Seen). record { rows = p.rows; past = p.past; bits = map (recalled_at S ρ p) (range_with_len 0 (length p.rows)) }) (rounds_join m n)
+      ∙ ap (λ k. after_rounds S ρ k start) more
 
 -- two lists, side by side
 module _ {A B : Type 0} (p : A × B → Bool) where

@@ -47,6 +47,10 @@ module _ (S : Tables) (ρ : Reading) (up : pos 0 ≤ℤ S.period) where
   since_falls t j k low = times_more (t - k) (t - j) S.period (omega (arith, low)) up
 
 module _ (S : Tables) (ρ : Reading) where
+  -- nothing is before the first scan
+  pub begins_first : begins S ρ zero ≡ true
+  begins_first = refl
+
   pub begun_low : (t : ℕ) → begun S ρ t ≤ t
   begun_low zero = omega arith
   begun_low (suc t) = omega (arith, begun_low t)
@@ -59,3 +63,16 @@ module _ (S : Tables) (ρ : Reading) where
   -- another is as the scan before
   pub begun_past : (t : ℕ) → begins S ρ (suc t) ≡ false → begun S ρ (suc t) ≡ begun S ρ t
   begun_past t is = refl
+
+-- what a scan tells of time: whether it begins, and what elapsed before it
+abbrev pub SameTime : Tables → Reading → Reading → ℕ → Type 0
+SameTime S a b t = (begins S a t ≡ begins S b t) × (elapsed S (a t) ≡ elapsed S (b t))
+
+-- it is no value of a scan that tells it
+pub same_time : (S : Tables) (a b : Reading) (t : ℕ) → SameTime S a b t
+same_time S a b zero = (refl, refl)
+same_time S a b (suc t) = (refl, refl)
+
+-- nor a scan's number, after the first
+pub begins_later : (S : Tables) (a b : Reading) (t u : ℕ) → begins S a (suc t) ≡ begins S b (suc u)
+begins_later S a b t u = refl

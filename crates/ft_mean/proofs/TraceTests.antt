@@ -46,8 +46,8 @@ inside_from : (range : ℤ × ℤ) (z : ℤ) → IsWithin range z → is_within 
 inside_from range z h = let low = h.0 in let high = h.1 in and_from (int_le range.0 z) (int_le z range.1) (grind (arith, ints, low)) (grind (arith, ints, high))
 
 module _ (S : Tables) (kinds : Kinds) (x : ℕ) where
-  of_kinds : (v : Var) → slice_get S.vars x ≡ Some v → is_of S.vars kinds x ≡ kinds v.kind
-  of_kinds v there = ap (λ o. elim o as (λ z. Bool) [ None ↦ false | Some u ↦ kinds u.kind ]) there
+  of_kinds : (v : Var) → slice_get S.vars x ≡ Some v → is_of S.vars kinds x ≡ kinds x v
+  of_kinds v there = ap (λ o. elim o as (λ z. Bool) [ None ↦ false | Some u ↦ kinds x u ]) there
 
   -- a test of the variables of these kinds, at one of them
   pub asked_of : (v : Var) (test : Bool) → IsVar S kinds x v → (not (is_of S.vars kinds x) || test) ≡ true → test ≡ true

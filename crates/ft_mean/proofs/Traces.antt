@@ -25,7 +25,7 @@ use Rattle.ft_mean.proofs.Exists.{AllInRange, overlay, overlay_at, overlay_past,
 pub reading_at : (S : Tables) (kinds : Kinds) (scans : Scans) (t x : ℕ) (v : Var) → IsVar S kinds x v
     → reading_of S kinds scans t x ≡ slice_index_or (slice_index_or scans t []) (place_of kinds S.vars x) (pos 0)
 reading_at S kinds scans t x v is = cond-true (is_of S.vars kinds x) _ (init_of S x)
-    (ap (λ o. elim o as (λ z. Bool) [ None ↦ false | Some u ↦ kinds u.kind ]) is.0 ∙ is.1)
+    (ap (λ o. elim o as (λ z. Bool) [ None ↦ false | Some u ↦ kinds x u ]) is.0 ∙ is.1)
 
 -- scans in range give a reading in range, of every variable of the set
 pub reading_range : (S : Tables) → IsWellFormed S → (kinds : Kinds) (scans : Scans) → IsListOf S kinds scans → (t x : ℕ) (v : Var) → t < length scans
@@ -35,8 +35,8 @@ reading_range S wf kinds scans list t x v l there = ⊎_elim
     (λ off. subst (λ z. IsWithin v.range z) (sym (cond-false (is_of S.vars kinds x) _ (init_of S x) off ∙ init)) (wf.inits x v there))
     (cases_Bool (is_of S.vars kinds x))
   where
-    is : is_of S.vars kinds x ≡ kinds v.kind
-    is = ap (λ o. elim o as (λ z. Bool) [ None ↦ false | Some u ↦ kinds u.kind ]) there
+    is : is_of S.vars kinds x ≡ kinds x v
+    is = ap (λ o. elim o as (λ z. Bool) [ None ↦ false | Some u ↦ kinds x u ]) there
 
     init : init_of S x ≡ v.init
     init = ap (λ o. elim o as (λ z. ℤ) [ None ↦ pos 0 | Some u ↦ u.init ]) there

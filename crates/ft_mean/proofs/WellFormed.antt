@@ -99,7 +99,7 @@ same_section section.Out section.In e = absurd (true≢false (sym e))
 same_section section.Out section.Req e = absurd (true≢false (sym e))
 same_section section.Out section.Sof e = absurd (true≢false (sym e))
 
-section_self : (a : Section) → is_section a a ≡ true
+pub section_self : (a : Section) → is_section a a ≡ true
 section_self section.In = refl
 section_self section.Req = refl
 section_self section.Sof = refl
@@ -115,7 +115,7 @@ same_side side.Req side.Sof e = absurd (true≢false (sym e))
 same_side side.Sof side.Req e = absurd (true≢false (sym e))
 
 module _ (S : Tables) where
-  of_test : (kinds : Kinds) (x : ℕ) (o : Option Var) → slice_get S.vars x ≡ o → elim o as (λ z. Bool) [ None ↦ false | Some v ↦ kinds v.kind ] ≡ true → IsOf S kinds x
+  pub of_test : (kinds : Kinds) (x : ℕ) (o : Option Var) → slice_get S.vars x ≡ o → elim o as (λ z. Bool) [ None ↦ false | Some v ↦ kinds x v ] ≡ true → IsOf S kinds x
   of_test kinds x None e t = absurd (true≢false (sym t))
   of_test kinds x (Some v) e t = (v, (e, t))
 
@@ -124,7 +124,7 @@ module _ (S : Tables) where
   memory_test s m None e t = absurd (true≢false (sym t))
   memory_test s m (Some memory) e t = (memory, e, same_side (side_of memory) s t)
 
-  side_test : (s : Side) (r : Read) → on_side S.vars S.memories s r ≡ true → OnSide S s r
+  pub side_test : (s : Side) (r : Read) → on_side S.vars S.memories s r ≡ true → OnSide S s r
   side_test s (at_now x) t = of_test (side_kinds s) x (slice_get S.vars x) refl t
   side_test s (at_before x) t = of_test (side_kinds s) x (slice_get S.vars x) refl t
   side_test s (of_memory m) t = memory_test s m (slice_get S.memories m) refl t
@@ -136,7 +136,7 @@ module _ (S : Tables) where
   now_test kinds (of_memory m) t = absurd (true≢false (sym t))
   now_test kinds (of_age m) t = absurd (true≢false (sym t))
 
-  read_test : (s : Section) (r : Read) → may_read S.vars S.memories s r ≡ true → MayRead S s r
+  pub read_test : (s : Section) (r : Read) → may_read S.vars S.memories s r ≡ true → MayRead S s r
   read_test section.In r t = now_test monitored r t
   read_test section.Req r t = side_test side.Req r t
   read_test section.Sof r t = side_test side.Sof r t
@@ -234,7 +234,7 @@ opened S = let h = S.sound in record {
   tables_read = λ k table r is c. read_test S table.section r (h.tables_read k table r is c);
   memories_read = λ m memory r is c. side_test S (side_of memory) r (h.memories_read m memory r is c);
   has_table = λ section x v is.
-      let at = any_table S section x S.tables (h.has_table section x (ap (λ o. elim o as (λ z. Bool) [ None ↦ false | Some u ↦ defined_kinds section u.kind ]) is.0 ∙ is.1)) in
+      let at = any_table S section x S.tables (h.has_table section x (ap (λ o. elim o as (λ z. Bool) [ None ↦ false | Some u ↦ defined_kinds section x u ]) is.0 ∙ is.1)) in
       let both = and_parts (is_section at.1.section section) (defines at.1.grid x) at.3 in
       (at.0, at.1, (at.2, same_section at.1.section section both.0), both.1);
   one_table = λ section x k l a b ia ib da db. h.one_table section x k l a b ia.0 ib.0 (is_for_from section x a ia.1 da) (is_for_from section x b ib.1 db);

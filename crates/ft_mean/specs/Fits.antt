@@ -1,12 +1,12 @@
 -- Which traces the tables of one side fit, and what IN and OUT make of a list.
-use Rattle.std.specs.Prelude.{ℕ, ◌≡◌, ◌<◌, length}
+use Rattle.std.specs.Prelude.{ℕ, ◌≡◌, ◌<◌, length, IsFalse}
 use Rattle.ft_core.specs.declared.tables.Tables.{Tables}
 use Rattle.ft_core.specs.declared.tables.Var.{Var}
 use Rattle.ft_core.specs.declared.tables.Side.{Side}
 use Rattle.ft_core.specs.declared.tables.Side.TheVariants as side
 use Rattle.ft_core.specs.declared.tables.Section.{Section}
 use Rattle.ft_core.specs.declared.tables.Section.TheVariants as section
-use Rattle.ft_core.specs.Kinds.{Kinds, monitored, given_kinds, defined_kinds, side_kinds, section_of}
+use Rattle.ft_core.specs.Kinds.{Kinds, monitored, given_kinds, defined_kinds, image_kinds, side_kinds, section_of}
 use Rattle.ft_mean.specs.Cells.{Follows}
 use Rattle.ft_mean.specs.Memory.{look}
 use Rattle.ft_mean.specs.Reading.{Reading, Scans, IsListOf, IsVar, reading_of}
@@ -24,12 +24,15 @@ pub record Fits (S : Tables) (s : Side) (given trace : Scans) : Type 0 where
       → side_reading S s trace t x ≡ reading_of S (given_kinds s) given t x
   pub follows : (t : ℕ) → t < length trace → Follows S (section_of s) (look S (side_reading S s trace) t) (side_reading S s trace t)
 
--- the image of a list by the tables of a section: each scan has their values at the same scan of the list
+-- the image of a list by the tables of a section: each scan has their values at the same scan of the list, and what the
+-- tables do not define is as in the list
 pub record Maps (S : Tables) (section : Section) (kinds : Kinds) (list image : Scans) : Type 0 where
   pub lengths : length image ≡ length list
-  pub values : IsListOf S (defined_kinds section) image
+  pub values : IsListOf S (image_kinds section) image
+  pub same_given : (t x : ℕ) (v : Var) → t < length image → IsVar S (image_kinds section) x v → IsFalse (defined_kinds section x v)
+      → reading_of S (image_kinds section) image t x ≡ reading_of S kinds list t x
   pub follows : (t : ℕ) → t < length image
-      → Follows S section (look S (reading_of S kinds list) t) (reading_of S (defined_kinds section) image t)
+      → Follows S section (look S (reading_of S kinds list) t) (reading_of S (image_kinds section) image t)
 
 -- IN takes monitored values to inputs
 abbrev pub InputMap : Tables → Scans → Scans → Type 0

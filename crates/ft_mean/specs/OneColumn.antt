@@ -15,6 +15,10 @@ use Rattle.ft_core.specs.declared.term.Cond.TheVariants.{Yes, Compare}
 abbrev pub number : VarKind → (place : ℕ) → (top : ℤ) → Var
 number kind place top = record { name = []; kind = kind; place = place; range = (pos 0, top); members = []; init = pos 0 }
 
+-- the same under a name
+abbrev pub called : List ℕ → Var → Var
+called name v = record { name = name; kind = v.kind; place = v.place; range = v.range; members = v.members; init = v.init }
+
 -- a table of one column: what it defines, and the condition and the term of each row
 pub record OneColumn : Type 0 where
   pub section : Section

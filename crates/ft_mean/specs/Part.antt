@@ -18,6 +18,10 @@ kinds_of (Given s) = given_kinds s
 kinds_of (Defined s) = defined_kinds (section_of s)
 kinds_of (Whole s) = side_kinds s
 
+-- what scans of a part tell of each variable
+abbrev pub told_by : Tables → Part → Scans → Reading
+told_by S part scans = reading_of S (kinds_of part) scans
+
 -- a number for each variable of the set
 abbrev pub row_of : Tables → (ℕ → ℤ) → List ℤ
 row_of S f = map f (range_with_len 0 (length S.vars))

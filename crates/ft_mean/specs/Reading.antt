@@ -1,8 +1,9 @@
 -- Lists of scans, and what they tell of each variable of the set.
-use Rattle.std.specs.Prelude.{ℕ, zero, suc, ◌-◌, ◌≡◌, ◌<◌, ℤ, pos, ◌*ℤ◌, Bool, true, false, List, [], length, slice_get, slice_index_or, Some, None, IsTrue, if◌then◌else◌}
+use Rattle.std.specs.Prelude.{ℕ, zero, suc, ◌-◌, ◌≡◌, ◌<◌, ℤ, pos, ◌*ℤ◌, Bool, true, false, List, [], length, slice_get, slice_index_or, Some, IsTrue, if◌then◌else◌}
 use Rattle.ft_base.specs.Interval.{IsWithin}
 use Rattle.ft_core.specs.declared.tables.Tables.{Tables}
 use Rattle.ft_core.specs.declared.tables.Var.{Var}
+use Rattle.ft_core.specs.Inits as inits
 use Rattle.ft_core.specs.Kinds.{Kinds, count_of, place_of, is_of}
 
 -- a list of scans, each with the values of the variables of some kinds, in order of declaration
@@ -14,7 +15,7 @@ abbrev pub Reading : Type 0
 Reading = ℕ → ℕ → ℤ
 
 abbrev pub init_of : Tables → ℕ → ℤ
-init_of S x = elim (slice_get S.vars x) [ None ↦ pos 0 | Some v ↦ v.init ]
+init_of S x = inits.init_of S.vars x
 
 -- what scans over the variables of these kinds tell; any other variable stays at its `init`
 abbrev pub reading_of : Tables → Kinds → Scans → Reading
@@ -23,7 +24,7 @@ reading_of S kinds scans t x =
 
 -- the variable at this place of the set, where it is of these kinds
 abbrev pub IsVar : Tables → Kinds → ℕ → Var → Type 0
-IsVar S kinds x v = (slice_get S.vars x ≡ Some v) × IsTrue (kinds v.kind)
+IsVar S kinds x v = (slice_get S.vars x ≡ Some v) × IsTrue (kinds x v)
 
 -- each scan has a value in range for each variable of these kinds, and no other value
 pub record IsListOf (S : Tables) (kinds : Kinds) (scans : Scans) : Type 0 where

@@ -1,6 +1,6 @@
 -- What is known of finished scans: a value of each variable of the set at each scan and one scan before, and the truth of each
 -- memory there.
-use Rattle.std.specs.Prelude.{ℕ, zero, suc, ◌-◌, ◌*ℤ◌, ℤ, pos, negsuc, Bool, false, ◌&&◌, ◌==◌, List, [], map, length, slice_index_or}
+use Rattle.std.specs.Prelude.{ℕ, zero, suc, ℤ, pos, negsuc, Bool, false, ◌&&◌, ◌==◌, List, [], map, length, slice_index_or}
 use Rattle.std.specs.List.{list_any, zip, range_with_len}
 use Rattle.std.specs.Ordering.{int_eq}
 use Rattle.ft_core.specs.declared.tables.Tables.{Tables}
@@ -12,6 +12,7 @@ use Rattle.ft_core.specs.declared.term.Term.{Term}
 use Rattle.ft_core.specs.declared.term.Cond.{Cond}
 use Rattle.ft_mean.specs.declared.seen.Seen.{Seen}
 use Rattle.ft_mean.specs.Past.{held, hyst}
+use Rattle.ft_mean.specs.Reading.{Reading, begun, since}
 use Rattle.ft_mean.specs.Value.{View, value, truth}
 
 -- scan t; no table and no memory reads an age
@@ -23,21 +24,22 @@ view_at seen t = record {
   memory = λ m. slice_index_or (slice_index_or seen.bits t []) m false;
 }
 
--- a memory at scan t, where the truths of the memories that it reads are those seen
-abbrev pub recalled : (period : ℤ) → Seen → Memory → ℕ → Bool
-recalled period seen (Held name side cond hold) t = held 0 (λ j. pos (t - j) *ℤ period) hold (λ j. truth (view_at seen j) cond) t
-recalled period seen (Hyst name side e lo hi start) t = hyst 0 lo hi start (λ j. value (view_at seen j) e) t
+-- a memory at scan t, looking back to a scan, where each scan is so many milliseconds ago and the truths of the memories that
+-- it reads are those seen
+abbrev pub recalled : (from : ℕ) → (ago : ℕ → ℤ) → Seen → Memory → ℕ → Bool
+recalled from ago seen (Held name side cond hold) t = held from ago hold (λ j. truth (view_at seen j) cond) t
+recalled from ago seen (Hyst name side e lo hi start) t = hyst from lo hi start (λ j. value (view_at seen j) e) t
 
--- every memory at scan t
-abbrev pub recalled_at : Tables → Seen → ℕ → List Bool
-recalled_at S seen t = map (λ memory. recalled S.period seen memory t) S.memories
+-- every memory at scan t, back to the last scan that begins
+abbrev pub recalled_at : Tables → Reading → Seen → ℕ → List Bool
+recalled_at S ρ seen t = map (λ memory. recalled (begun S ρ t) (λ j. since S ρ j t) seen memory t) S.memories
 
 -- the same scans, with the truths of the memories after so many rounds, each from those of the round before
-abbrev pub after_rounds : Tables → ℕ → Seen → Seen
-after_rounds S zero seen = seen
-after_rounds S (suc n) seen =
-    let past = after_rounds S n seen in
-    record { rows = past.rows; past = past.past; bits = map (recalled_at S past) (range_with_len 0 (length past.rows)) }
+abbrev pub after_rounds : Tables → Reading → ℕ → Seen → Seen
+after_rounds S ρ zero seen = seen
+after_rounds S ρ (suc n) seen =
+    let past = after_rounds S ρ n seen in
+    record { rows = past.rows; past = past.past; bits = map (recalled_at S ρ past) (range_with_len 0 (length past.rows)) }
 
 -- one of the terms whose condition is true has this value
 abbrev pub gives_in : View → ℤ → List Cond → List Term → Bool

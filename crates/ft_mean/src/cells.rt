@@ -191,13 +191,7 @@ fn table_has<L: Look>(
     ensures { result ≡ (is_section table.now.section section
         && grid_gives (L.view look.now) variable wanted table.now.grid) }
 {
-    is_same(table.section, section) && grid_has(&table.grid, variable, look, wanted)
-}
-
-fn is_same(a: Section, b: Section) -> bool
-    ensures { result ≡ is_section a b }
-{
-    a == b
+    table.section.is(section) && grid_has(&table.grid, variable, look, wanted)
 }
 
 /// Whether some cell of the tables of a section, for a variable, that holds at a scan has this value.

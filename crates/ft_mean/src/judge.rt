@@ -1,5 +1,5 @@
 //! The plain and slow judge of a whole trace.
-ghost use Rattle.std.specs.Prelude.{ℕ, ◌≡◌, ◌<◌, ◌↔◌, length, IsTrue, IfOk};
+ghost use Rattle.std.specs.Prelude.{ℕ, ◌≡◌, ◌<◌, ◌↔◌, ◌&&◌, int_le, length, IsTrue, IfOk};
 ghost use Rattle.ft_mean.specs.Fits.{Fits};
 ghost use Rattle.ft_mean.specs.Part.{kinds_of, is_inside, in_range, is_row, is_list, are_lists};
 ghost use Rattle.ft_mean.specs.Part.{at_all, has_given, has_table, is_right, follows_by};
@@ -11,16 +11,23 @@ use crate::part::{Part, count_of, is_of, told};
 use crate::recall::recall_all;
 use crate::seen::{Seen, SeenAt};
 use crate::telling::seen_of;
+use crate::time::Known;
 use crate::trace::Trace;
 use ft_base::NoMemory;
-use ft_core::{History, Side, Tables};
+use ft_core::{History, Side, Tables, Var};
 use std::alloc::Global;
+
+fn has_in_range(var: &Var, value: i64) -> bool
+    ensures { result ≡ (int_le var.now.range.0 value && int_le value var.now.range.1) }
+{
+    var.range.lo() <= value && value <= var.range.hi()
+}
 
 fn is_inside(tables: &Tables, variable: usize, value: i64) -> bool
     ensures { result ≡ is_inside tables.now variable value }
 {
     match tables.vars.as_slice().get(variable) {
-        Some(var) => var.range.lo() <= value && value <= var.range.hi(),
+        Some(var) => has_in_range(var, value),
         None => true,
     }
 }
@@ -170,6 +177,11 @@ pub fn fits_list(
         return Ok(false);
     }
     let start = seen_of(alloc, tables, Part::Whole(side), trace)?;
-    let seen = recall_all(alloc, tables, start)?;
+    let known = Known {
+        tables,
+        part: Part::Whole(side),
+        scans: trace,
+    };
+    let seen = recall_all(alloc, &known, start)?;
     Ok(follows(tables, side, given, trace, &seen))
 }

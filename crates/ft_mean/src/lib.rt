@@ -5,6 +5,7 @@
 mod arithmetic;
 mod cells;
 mod evaluating;
+mod finding;
 mod judge;
 mod law;
 mod look;
@@ -12,14 +13,18 @@ mod part;
 mod recall;
 mod seen;
 mod telling;
+mod time;
 mod trace;
 
 pub use arithmetic::compare;
 pub use evaluating::{truth_of, value_of};
+pub use finding::first_cell;
 pub use judge::fits_list;
 pub use law::{
-    allowed_by_scan, held_is_full_age, maps_by_scan, memories_move, one_image, one_trace,
-    outputs_alone,
+    allowed_by_scan, evaluation_laws, held_is_full_age, look_laws, maps_by_scan, memories_move,
+    memory_laws, one_column_laws, one_image, one_trace, outputs_alone, past_laws, row_laws,
+    safety_laws, table_laws, time_laws, trace_laws, whole_laws,
 };
 pub use look::Look;
+pub use part::Part;
 pub use trace::Trace;

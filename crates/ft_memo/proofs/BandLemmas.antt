@@ -2,12 +2,12 @@
 use Rattle.std.proofs.Common.{◌≡◌, ◌∙◌, sym, ap, suc, ℤ, pos, Bool, List, [], ◌∷◌, ◌++◌, length, arith}
 use Rattle.std.proofs.lemmas.List.{get_or_push, get_or_append_left, length_push}
 use Rattle.ft_mean.specs.Past.{hyst}
-use Rattle.ft_mean.proofs.PastLemmas.{next_bit, hyst_first, hyst_next, same_hyst}
+use Rattle.ft_mean.specs.PastLaws.{next_bit, HystBegins, HystGoesOn, SameHyst}
 use Rattle.ft_memo.specs.Band.{number_at, hyst_after}
 
-module _ (lo hi : ℤ) (start : Bool) where
+module _ (begins : HystBegins) (goes_on_by : HystGoesOn) (same_hyst : SameHyst) (lo hi : ℤ) (start : Bool) where
   side_push : (numbers : List ℤ) (now : ℤ) → hyst_after lo hi start (numbers ++ now ∷ []) ≡ next_bit lo hi (hyst_after lo hi start numbers) now
-  side_push [] now = hyst_first lo hi start (number_at (now ∷ [])) 0
+  side_push [] now = begins lo hi start (number_at (now ∷ [])) 0
   side_push (first ∷ rest) now =
       let t = length rest in
       let e = number_at (first ∷ rest ++ now ∷ []) in
@@ -15,7 +15,7 @@ module _ (lo hi : ℤ) (start : Bool) where
       let last : e (suc t) ≡ now = get_or_push (first ∷ rest) now (pos 0) (suc t) (omega arith) in
       let past : hyst 0 lo hi start e t ≡ hyst 0 lo hi start (number_at (first ∷ rest)) t =
       same_hyst 0 lo hi start e (number_at (first ∷ rest)) t (λ j l. get_or_append_left (first ∷ rest) (now ∷ []) (pos 0) j (omega (arith, l))) in
-      ap (hyst 0 lo hi start e) count ∙ hyst_next lo hi start e 0 t (omega arith) ∙ (λ i. next_bit lo hi (past i) (last i))
+      ap (hyst 0 lo hi start e) count ∙ goes_on_by lo hi start e 0 t (omega arith) ∙ (λ i. next_bit lo hi (past i) (last i))
 
   -- a bit that goes on stands for the longer list
   pub side_goes_on : (numbers longer : List ℤ) (now : ℤ) (before after : Bool)

@@ -1,2 +1,3 @@
+pub mod AgoLemmas
 pub mod BandLemmas
 pub mod TimerLemmas

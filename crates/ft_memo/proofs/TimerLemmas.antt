@@ -3,13 +3,13 @@ use Rattle.std.proofs.Common.{◌≡◌, ◌∙◌, sym, ap, suc, ◌-◌, ℤ, 
 use Rattle.std.specs.Prelude.{int_le}
 use Rattle.std.proofs.lemmas.List.{get_or_push, get_or_append_left, length_push}
 use Rattle.ft_mean.specs.Past.{held, age}
-use Rattle.ft_mean.proofs.TimeLemmas.{span_none, span_next, times_up, times_more}
-use Rattle.ft_mean.proofs.AgeLemmas.{next_age, age_first, age_next, same_age, held_is}
+use Rattle.ft_mean.specs.PastLaws.{next_age, AgeBegins, AgeGoesOn, SameAge, HeldByAge}
 use Rattle.ft_memo.specs.Timer.{ago, truth_at, held_after, age_after}
+use Rattle.ft_memo.proofs.AgoLemmas.{ago_none, ago_next, ago_up, ago_falls}
 
-module _ (hold period : ℤ) (low : pos 0 ≤ℤ hold) (up : pos 0 ≤ℤ period) where
+module _ (begins : AgeBegins) (goes_on_by : AgeGoesOn) (same_age : SameAge) (held_is : HeldByAge) (hold period : ℤ) (low : pos 0 ≤ℤ hold) (up : pos 0 ≤ℤ period) where
   age_push : (truths : List Bool) (now : Bool) → age_after hold period (truths ++ now ∷ []) ≡ next_age hold period (age_after hold period truths) now
-  age_push [] now = age_first 0 (ago period 0) hold (truth_at (now ∷ [])) (span_none 0 period) low
+  age_push [] now = begins 0 (ago period 0) hold (truth_at (now ∷ [])) (ago_none period 0) low
   age_push (first ∷ rest) now =
       let t = length rest in
       let c = truth_at (first ∷ rest ++ now ∷ []) in
@@ -18,8 +18,8 @@ module _ (hold period : ℤ) (low : pos 0 ≤ℤ hold) (up : pos 0 ≤ℤ period
       let past : age 0 (ago period t) hold c t ≡ age 0 (ago period t) hold (truth_at (first ∷ rest)) t =
       same_age 0 (ago period t) hold c (truth_at (first ∷ rest)) t (λ j l. get_or_append_left (first ∷ rest) (now ∷ []) false j (omega (arith, l))) in
       ap (λ k. age 0 (ago period k) hold c k) count
-      ∙ age_next 0 hold period low up (ago period t) (ago period (suc t)) t (omega arith) (λ j l. times_up (t - j) period up) (λ j l. span_next t j period l)
-      (span_none (suc t) period) c
+      ∙ goes_on_by 0 hold period low up (ago period t) (ago period (suc t)) t (omega arith) (λ j l. ago_up period t j up) (λ j l. ago_next period t j l)
+      (ago_none period (suc t)) c
       ∙ (λ i. next_age hold period (past i) (last i))
 
   held_last : (first : Bool) (rest : List Bool) → held_after hold period (first ∷ rest) ≡ int_le hold (age_after hold period (first ∷ rest))
@@ -27,7 +27,7 @@ module _ (hold period : ℤ) (low : pos 0 ≤ℤ hold) (up : pos 0 ≤ℤ period
       let t = length rest in
       let less : suc t - 1 ≡ t = omega arith in
       ap (λ k. held 0 (ago period k) hold (truth_at (first ∷ rest)) k) less
-      ∙ held_is 0 (ago period t) hold (truth_at (first ∷ rest)) t (λ j k l. times_more (t - k) (t - j) period (omega (arith, l)) up) low
+      ∙ held_is 0 (ago period t) hold (truth_at (first ∷ rest)) t (λ j k l. ago_falls period t j k up l) low
 
   held_push : (truths : List Bool) (now : Bool) → held_after hold period (truths ++ now ∷ []) ≡ int_le hold (age_after hold period (truths ++ now ∷ []))
   held_push [] now = held_last now []

@@ -2,6 +2,7 @@ ghost use Rattle.std.specs.Prelude.{◌≡◌, ◌++◌, [], ◌∷◌, ◌<ℤ�
 ghost use Rattle.ft_memo.specs.Band.{hyst_after};
 
 use crate::told::Told;
+use ft_mean::past_laws;
 use std::marker::Model;
 
 /// Which of two bounds a number met last. Contracts see the bounds, the start and the numbers so far, one a scan.
@@ -64,6 +65,7 @@ impl Band {
         ensures numbers { self.new.numbers ≡ self.old.numbers ++ now ∷ [] }
         ensures hyst { result ≡ hyst_after self.new.lo self.new.hi self.new.start self.new.numbers }
     {
+        past_laws();
         let bit = next_bit(self.lo, self.hi, self.bit, now);
         self.bit = bit;
         self.past = self.past.with(&now);

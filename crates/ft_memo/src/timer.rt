@@ -4,6 +4,7 @@ ghost use Rattle.ft_core.specs.Sound.{IsHold, IsPeriod};
 ghost use Rattle.ft_memo.specs.Timer.{held_after, age_after};
 
 use crate::told::Told;
+use ft_mean::past_laws;
 use std::marker::Model;
 
 /// How long a condition has been true, up to a hold. Contracts see the hold, the period and the truths so far, one a scan.
@@ -66,6 +67,7 @@ impl Timer {
         ensures truths { self.new.truths ≡ self.old.truths ++ now ∷ [] }
         ensures held { result ≡ held_after self.new.hold self.new.period self.new.truths }
     {
+        past_laws();
         let age = next_age(self.hold, self.period, self.age, now);
         self.age = age;
         self.past = self.past.with(&now);

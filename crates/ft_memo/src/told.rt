@@ -4,9 +4,9 @@ ghost use Rattle.std.specs.Borrow.{ftrue};
 
 use std::marker::{Model, PhantomData};
 
-/// What a memory was told, one item a scan.
+/// What something was told, one item a scan.
 #[derive(Drop)]
-pub(crate) struct Told<T> {
+pub struct Told<T> {
     of: PhantomData<T>,
     pub ghost items: { List T },
 }
@@ -17,14 +17,14 @@ impl<T> Model for Told<T> {
 
 impl<T> Told<T> {
     /// No item.
-    pub(crate) fn new() -> Told<T>
+    pub fn new() -> Told<T>
         ensures { result.items ≡ [] }
     {
         Told { of: PhantomData }
     }
 
     /// These and one more at the end.
-    pub(crate) fn with(&self, _now: &T) -> Told<T>
+    pub fn with(&self, _now: &T) -> Told<T>
         ensures { result.items ≡ self.now.items ++ _now.now ∷ [] }
     {
         Told { of: PhantomData }

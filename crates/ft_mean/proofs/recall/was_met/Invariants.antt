@@ -10,5 +10,5 @@ use Rattle.ft_mean.proofs.recall.was_met.Given as goal
 -- what the scans that were not looked at yet would say is what all say
 abbrev pub invariant-loop-back : goal.invariant-loop-back
 invariant-loop-back l =
-    hyst 0 l.lo l.hi l.start (λ j. value (view_at l.seen j) l.term) l.scan
-    ≡ band l.lo l.hi l.start (λ j. value (view_at l.seen j) l.term) (reverse (range_with_len 0 (suc l.scan - l.back)))
+    hyst l.begun l.lo l.hi l.start (λ j. value (view_at l.seen j) l.term) l.scan
+    ≡ band l.lo l.hi l.start (λ j. value (view_at l.seen j) l.term) (reverse (range_with_len l.begun (suc l.scan - l.begun - l.back)))

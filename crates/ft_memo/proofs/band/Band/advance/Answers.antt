@@ -12,7 +12,7 @@ is_side c =
     let now_fits = c.ranges.now in
     let goes_on = simp to_z-of_z at c.next_bit-bit.ensures in
     let is_longer = simp to_z-of_z at c.with-self-inside.ensures in
-    side_goes_on c.self.inside.lo c.self.inside.hi c.self.inside.start c.self.inside.past.items c.with-self-inside.result.items c.args.now
+    side_goes_on c.past_laws.ensures.hyst_begins c.past_laws.ensures.hyst_goes_on c.past_laws.ensures.same_hyst c.self.inside.lo c.self.inside.hi c.self.inside.start c.self.inside.past.items c.with-self-inside.result.items c.args.now
     c.self.inside.bit c.next_bit-bit.result c.self.invariant.is_side goes_on is_longer
 
 pub invariant_of-self : goal.invariant_of-self

@@ -1,0 +1,29 @@
+use Rattle.std.proofs.Common.{◌≡◌, subst, refl, arith, List, Some, None}
+use Rattle.std.specs.Prelude.{slice_index_or}
+use Rattle.std.proofs.lemmas.Option.{slice_get_read, slice_get-get_or}
+use Rattle.ft_core.specs.declared.term.Term.{Term}
+use Rattle.ft_mean.specs.FirstCell.{target_column}
+use Rattle.ft_mean.proofs.FirstCell.{row_first, row_next, row_none}
+use Rattle.ft_mean.proofs.finding.first_of_vector.Goals as goal
+
+pub returns-in-Some : goal.returns-in-Some
+returns-in-Some g c = row_first (λ r. target_column (g.L.Look.view c.args.look.now) c.args.variable r.0 c.args.columns.now r.1)
+    c.args.targets.now c.args.terms.now c.loop-at.at c.loop-at.invariant (slice_index_or c.args.targets.now c.loop-at.at 0)
+    c.index-terms-at.result c.in-Some.column
+    (slice_get-get_or c.args.targets.now c.loop-at.at 0 (omega (arith, c.loop-at-test.true, c.min-at-end.ensures)))
+    (slice_get_read c.args.terms.now _ c.loop-at.at _ refl (omega (arith, c.loop-at-test.true, c.min-at-end.ensures)) c.index-terms-at.is)
+    (subst (λ (es : List Term). Some c.in-Some.column ≡ target_column (g.L.Look.view c.args.look.now) c.args.variable
+    (slice_index_or c.args.targets.now c.loop-at.at 0) c.args.columns.now es) c.as_slice.ensures c.in-Some.ensures)
+
+pub loop-at-preserved : goal.loop-at-preserved
+loop-at-preserved g c = row_next (λ r. target_column (g.L.Look.view c.args.look.now) c.args.variable r.0 c.args.columns.now r.1)
+    c.args.targets.now c.args.terms.now c.loop-at.at c.loop-at.invariant (slice_index_or c.args.targets.now c.loop-at.at 0)
+    c.index-terms-at.result
+    (slice_get-get_or c.args.targets.now c.loop-at.at 0 (omega (arith, c.loop-at-test.true, c.min-at-end.ensures)))
+    (slice_get_read c.args.terms.now _ c.loop-at.at _ refl (omega (arith, c.loop-at-test.true, c.min-at-end.ensures)) c.index-terms-at.is)
+    (subst (λ (es : List Term). None ≡ target_column (g.L.Look.view c.args.look.now) c.args.variable
+    (slice_index_or c.args.targets.now c.loop-at.at 0) c.args.columns.now es) c.as_slice.ensures c.in_default.ensures)
+
+pub returns : goal.returns
+returns g c = row_none (λ r. target_column (g.L.Look.view c.args.look.now) c.args.variable r.0 c.args.columns.now r.1) c.args.targets.now
+    c.args.terms.now c.loop-at.at c.loop-at.invariant (omega (arith, c.loop-at-test.false, c.min-at-end.ensures))
