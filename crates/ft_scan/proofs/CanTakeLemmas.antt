@@ -24,6 +24,7 @@ use Rattle.ft_scan.proofs.ItemLemmas.{has_value}
 use Rattle.ft_scan.proofs.KnownLemmas.{truth_known, cells_known}
 use Rattle.ft_scan.proofs.TableLemmas.{grid_shaped, found_none}
 use Rattle.ft_scan.proofs.VectorLemmas.{same_columns, is_for_target, entry_there, some_or_none}
+use Rattle.ft_scan.specs.Laws.{Laws}
 
 pub memory_there : (memories : List Memory) (s : Side) (m : ℕ) → IsTrue (is_memory_of memories s m) → (memory : Memory) × (slice_get memories m ≡ Some memory)
 memory_there memories s m = of (slice_get memories m) refl
@@ -33,7 +34,7 @@ memory_there memories s m = of (slice_get memories m) refl
     of None e t = absurd (true≢false (sym t))
     of (Some memory) e t = (memory, e)
 
-module _ (S : Tables) (proper : AllProper S) (s : Side) (steps : List Step) (plan : IsPlan S s steps) (a : Reading) (n : ℕ) (scan : IsScan S s a n)
+module _ (L : Laws) (S : Tables) (proper : AllProper S) (s : Side) (steps : List Step) (plan : IsPlan S s steps) (a : Reading) (n : ℕ) (scan : IsScan S s a n)
     (p : ℕ) (frame : Frame) (told : IsTold S s steps a n p frame) where
   abbrev V : View
   V = view_of frame
@@ -53,9 +54,9 @@ module _ (S : Tables) (proper : AllProper S) (s : Side) (steps : List Step) (pla
         column = at.0;
         condition = at.1.0;
         at = at.1.1;
-        holds = truth_known S s steps a n p frame told p (omega arith) can.columns can.known at.0 at.1.0 at.1.1 ∙ at.1.2;
+        holds = (truth_known L) S s steps a n p frame told p (omega arith) can.columns can.known at.0 at.1.0 at.1.1 ∙ at.1.2;
       })
-      (λ none. absurd (found_none S (section_of s) can.variable table (record { section = section_of s; grid = Vector can.columns can.targets can.terms }) can.there
+      (λ none. absurd ((found_none L) S (section_of s) can.variable table (record { section = section_of s; grid = Vector can.columns can.targets can.terms }) can.there
       (is_for_target S s table can.columns can.targets can.terms can.there can.row can.variable can.target) W (a n can.variable)
       (vector_none W can.variable can.columns can.targets can.terms (λ i below t at mine j c e there term. none j c there))
       (scan.follows can.variable v.0 (v.1, v.2))))
@@ -64,8 +65,8 @@ module _ (S : Tables) (proper : AllProper S) (s : Side) (steps : List Step) (pla
   has_cell : (x table : ℕ) → CanFindCell S s steps p x table → HasCell S s x table frame
   has_cell x table can =
       let v = of_kinds S.vars (defined_kinds (section_of s)) x can.defined in
-      let some = has_value S proper s a n scan.in_range scan.follows V x v.0 (v.1, v.2) (cells_known S s steps a n p frame told x table can.there.table can.there.there can.there.is_for_it can.known) in
-      record { there = can.there; of_side = can.defined; z = some.0; is = some.1 }
+      let some = (has_value L) S proper s a n scan.in_range scan.follows V x v.0 (v.1, v.2) ((cells_known L) S s steps a n p frame told x table can.there.table can.there.there can.there.is_for_it can.known) in
+      record { there = can.there; whole = can.whole; of_side = can.defined; z = some.0; is = some.1 }
 
   has_entry : (x table row : ℕ) → CanFindEntry S s steps p x table row → HasEntry S s table row frame
   has_entry x table row can =

@@ -10,9 +10,8 @@ use Rattle.ft_core.specs.declared.term.Term.{Term}
 use Rattle.ft_core.specs.declared.term.Cond.{Cond}
 use Rattle.ft_core.specs.Grids.{Cell, cells, cells_for, row_cells, is_shaped}
 use Rattle.ft_core.specs.Reads.{Read, cond_reads, cell_reads, term_reads}
-use Rattle.ft_core.proofs.PlaceLemmas.{contained, place-of, some-at}
-use Rattle.ft_mean.proofs.Passes.{from_one}
-use Rattle.ft_mean.proofs.WellFormed.{in_all}
+use Rattle.ft_core.specs.Places.{contained, place-of, some-at}
+use Rattle.ft_scan.proofs.Ground.{from_one, in_all}
 use Rattle.ft_scan.proofs.FoundLemmas.{zip_there, mapped_there}
 use Rattle.ft_scan.proofs.TableLemmas.{all_at}
 

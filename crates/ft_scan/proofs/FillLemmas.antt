@@ -13,14 +13,14 @@ use Rattle.ft_core.specs.Kinds.{Kinds, count_of, defined_kinds, is_of, place_of}
 use Rattle.ft_mean.specs.Cells.{defined}
 use Rattle.ft_mean.specs.Reading.{IsVar}
 use Rattle.ft_mean.specs.Value.{View}
-use Rattle.ft_mean.proofs.Rows.{place-below}
 use Rattle.ft_scan.specs.Mapping.{IsFilled}
 use Rattle.ft_scan.specs.Rows.{AreValues, row_value}
 use Rattle.ft_scan.proofs.FrameLemmas.{of_kinds}
 use Rattle.ft_scan.proofs.ListedLemmas.{of_var}
 use Rattle.ft_scan.proofs.PlaceLemmas.{other_place}
+use Rattle.ft_scan.specs.Laws.{Laws}
 
-module _ (S : Tables) (section : Section) (V : View) where
+module _ (L : Laws) (S : Tables) (section : Section) (V : View) where
   abbrev kinds : Kinds
   kinds = defined_kinds section
 
@@ -35,7 +35,7 @@ module _ (S : Tables) (section : Section) (V : View) where
     width = length-set old (place_of kinds S.vars x) z;
     filled = λ y w there same. subst (λ k. IsTrue (defined S section V k (row_value S section (slice_set old (place_of kinds S.vars x) z) k))) (eqb-true x y same)
         (subst (λ k. IsTrue (defined S section V x k))
-        (sym (get_or-set_same old (place_of kinds S.vars x) z (pos 0) (let below = place-below kinds S.vars x v is.0 is.1 in omega (arith, below, room)))) value);
+        (sym (get_or-set_same old (place_of kinds S.vars x) z (pos 0) (let below = L.inside S kinds x v is in omega (arith, below, room)))) value);
     rest = λ y w there differs. get_or-set_other old (place_of kinds S.vars x) (place_of kinds S.vars y) z (pos 0)
         (λ same. other_place kinds S.vars y x w v there.0 is.0 there.1 is.1 (λ e. true≢false (sym (eq-eqb x y (sym e)) ∙ differs)) same);
   }

@@ -14,20 +14,22 @@ use Rattle.ft_core.specs.declared.tables.Grid.{Grid}
 use Rattle.ft_core.specs.declared.tables.Grid.TheVariants.{Vector}
 use Rattle.ft_core.specs.declared.term.Cond.{Cond}
 use Rattle.ft_core.specs.declared.term.Term.{Term}
-use Rattle.ft_core.specs.Kinds.{Kinds, is_of}
+use Rattle.ft_core.specs.Grids.{cells_for, defines, is_for, is_section}
+use Rattle.ft_core.specs.Kinds.{Kinds, is_of, section_of}
 use Rattle.ft_core.specs.Size.{is_sized, is_sized_term, is_sized_grid, is_sized_memory}
+use Rattle.ft_mean.specs.Cells.{defined}
 use Rattle.ft_mean.specs.Value.{View, value}
 use Rattle.ft_scan.specs.declared.frame.Frame.{Frame}
 use Rattle.ft_scan.specs.declared.frame.Running.{Running}
 use Rattle.ft_scan.specs.declared.frame.Running.TheVariants.{Timer, Band}
-use Rattle.ft_scan.specs.Found.{IsOpenColumn, IsEntry}
-use Rattle.ft_scan.specs.Frame.{view_of, IsFrameOf, IsRunOf, Advances, HasColumn, FindsColumn, HasEntry, FindsEntry}
+use Rattle.ft_scan.specs.Found.{IsFound, IsOpenColumn, IsEntry, IsWhole}
+use Rattle.ft_scan.specs.Frame.{view_of, IsFrameOf, IsRunOf, Advances, HasColumn, FindsColumn, HasCell, HasEntry, FindsEntry}
 use Rattle.ft_scan.specs.Plan.{IsVector}
-use Rattle.ft_mean.specs.Safe.{KeepsSizes, IsSafe, IsSafeGrid, IsSafeMemory}
+use Rattle.ft_mean.specs.Safe.{KeepsSizes, IsSafe, IsSafeBy, IsSafeGrid, IsSafeMemory}
 use Rattle.ft_scan.specs.Stepping.{sample_of, CanHear, Hears}
 use Rattle.ft_scan.proofs.RowLemmas.{value_size, no_age}
-use Rattle.ft_mean.proofs.SafeLemmas.{safe_by}
-use Rattle.ft_scan.proofs.TableLemmas.{all_at, grid_safe}
+use Rattle.ft_scan.proofs.TableLemmas.{all_at, for_it, grid_safe, found_defined, found_none}
+use Rattle.ft_scan.specs.Laws.{Laws}
 
 -- a list of numbers has 0 at each place where another of its length has nothing
 past_end : {X : Type 0} (xs : List X) (ys : List ℤ) (x : ℕ) → length ys ≡ length xs → slice_get xs x ≡ None → slice_index_or ys x (pos 0) ≡ pos 0
@@ -108,27 +110,50 @@ module _ (S : Tables) (s : Side) (place : ℕ) (table : Table) (there : slice_ge
           leaves = λ i. record { now = all i; past = frame.past; truths = frame.truths; columns = frame.columns; runs = frame.runs };
         }
 
+-- a whole table has a cell that holds, and gives its value
+module _ (L : Laws) (S : Tables) (s : Side) (place : ℕ) (table : Table) (there : slice_get S.tables place ≡ Some table) (frame : Frame) (x : ℕ) (has : HasCell S s x place frame) where
+  mine : IsTrue (is_for (section_of s) x table)
+  mine = for_it S.tables (section_of s) x place has.there table there
+
+  defines_it : IsTrue (defines table.grid x)
+  defines_it = (and_parts (is_section table.section (section_of s)) (defines table.grid x) mine).1
+
+  pub cell_whole : IsWhole table.grid
+  cell_whole = subst (λ (t : Table). IsWhole t.grid) (same_Some has.there.table table (sym has.there.there ∙ there)) has.whole
+
+  pub cell_missed : ((y : ℕ) → IsTrue (defines table.grid y) → IsFound (view_of frame) (cells_for y table.grid) None) → ⊥
+  cell_missed none = (found_none L) S (section_of s) x place table there mine (view_of frame) has.z (none x defines_it) has.is
+
+  pub cell_found : (z : ℤ) → ((y : ℕ) → IsTrue (defines table.grid y) → IsFound (view_of frame) (cells_for y table.grid) (Some z))
+      → IsTrue (defined S (section_of s) (view_of frame) x z)
+  cell_found z found = (found_defined L) S (section_of s) x place table there mine (view_of frame) z (found x defines_it)
+
+-- what is safe by a test is safe by one that follows from it
+by_less : {V : View} {test other : List Var → List Memory → Bool} → ((vars : List Var) (memories : List Memory) → IsTrue (test vars memories) → IsTrue (other vars memories))
+    → IsSafeBy V test → IsSafeBy V other
+by_less h s = record { vars = s.vars; memories = s.memories; keeps = s.keeps; small = h s.vars s.memories s.small }
+
 -- an entry of a safe vector table is safe, and is the one in its row and column
 module _ (grid : Grid) (columns : List Cond) (targets : List ℕ) (terms : List (List Term)) (vector : grid ≡ Vector columns targets terms) (row column : ℕ)
     (entries : List Term) (e : Term) (in_row : slice_get terms row ≡ Some entries) (there : slice_get entries column ≡ Some e) where
   pub entry_safe : (V : View) → IsSafeGrid V grid → IsSafe V e
-  entry_safe V = safe_by V (λ vars memories sized.
+  entry_safe V safe = by_less (λ vars memories sized.
       all_at (is_sized_term vars memories) entries column e
       (all_at (list_all (is_sized_term vars memories)) terms row entries
       (and_parts (list_all (is_sized vars memories) columns) _ (subst (λ g. IsTrue (is_sized_grid vars memories g)) vector sized)).1
       in_row)
-      there)
+      there) safe
 
   pub same_entry : (f : Term) → IsEntry grid row column f → e ≡ f
   same_entry f is = same_Some e f (sym there ∙ ap (λ xs. slice_get xs column) (sym (get_or_from_slice_get terms row entries [] in_row))
       ∙ subst (λ g. IsEntry g row column f) vector is)
 
 -- the variable at a place that passes a test of kinds
-pub of_kinds : (vars : List Var) (kinds : Kinds) (x : ℕ) → IsTrue (is_of vars kinds x) → (v : Var) × (slice_get vars x ≡ Some v) × IsTrue (kinds v.kind)
+pub of_kinds : (vars : List Var) (kinds : Kinds) (x : ℕ) → IsTrue (is_of vars kinds x) → (v : Var) × (slice_get vars x ≡ Some v) × IsTrue (kinds x v)
 of_kinds vars kinds x = of (slice_get vars x) refl
   where
-    of : (o : Option Var) → slice_get vars x ≡ o → elim o as (λ z. Bool) [ None ↦ false | Some v ↦ kinds v.kind ] ≡ true
-        → (v : Var) × (slice_get vars x ≡ Some v) × IsTrue (kinds v.kind)
+    of : (o : Option Var) → slice_get vars x ≡ o → elim o as (λ z. Bool) [ None ↦ false | Some v ↦ kinds x v ] ≡ true
+        → (v : Var) × (slice_get vars x ≡ Some v) × IsTrue (kinds x v)
     of None e t = absurd (true≢false (sym t))
     of (Some v) e t = (v, e, t)
 

@@ -1,5 +1,5 @@
 -- What is noted table by table, and row by row, is where the tables of a section define each variable.
-use Rattle.std.proofs.Common.{◌≡◌, ◌∙◌, sym, ap, subst, refl, inl, inr, ℕ, suc, ◌+◌, ◌<◌, Bool, true, false, ◌&&◌, ◌||◌, List, [], ◌∷◌, length, slice_get, slice_set, Option, Some, None, replicate, arith, ⊎_elim, true≢false}
+use Rattle.std.proofs.Common.{◌≡◌, ◌∙◌, sym, ap, subst, refl, inl, inr, ℕ, suc, ◌+◌, Bool, true, false, ◌&&◌, ◌||◌, List, [], ◌∷◌, length, slice_get, slice_set, Option, Some, None, arith, ⊎_elim, true≢false}
 use Rattle.std.specs.Prelude.{IsTrue, IsFalse, ◌==◌}
 use Rattle.std.specs.List.{list_any}
 use Rattle.std.proofs.lemmas.Bool.{cases_lt, and_from, eq-eqb, eqb-true, cases_Bool}
@@ -14,8 +14,8 @@ use Rattle.ft_core.specs.declared.term.Cond.{Cond}
 use Rattle.ft_core.specs.declared.term.Term.{Term}
 use Rattle.ft_core.specs.Kinds.{defined_kinds, is_of}
 use Rattle.ft_core.specs.Grids.{defines, is_for, is_section}
-use Rattle.ft_core.proofs.PlaceLemmas.{of-set, of-replicate}
-use Rattle.ft_mean.proofs.WellFormed.{same_section}
+use Rattle.ft_core.specs.Places.{of-set}
+use Rattle.ft_scan.proofs.Ground.{same_section}
 use Rattle.ft_scan.specs.Homes.{IsHome, AreHomes, IsPart, Notes, NotesRows}
 use Rattle.ft_scan.specs.declared.homes.Home.{Home}
 use Rattle.ft_scan.specs.declared.homes.Home.TheVariants.{Whole, Row}
@@ -68,10 +68,6 @@ all-rows at columns targets terms old new so = record {
 }
 
 module _ (tables : List Table) (section : Section) where
-  -- before the first table
-  pub no-tables : (n : ℕ) → AreHomes tables section 0 (replicate n None)
-  no-tables n x home is = subst (IsHome tables section 0 x) (of-replicate n x home None is) (λ at table below there. absurd (omega (arith, below)))
-
   -- a home that is found stays one
   stays : (n m x : ℕ) (home : Home) → IsHome tables section n x (Some home) → IsHome tables section m x (Some home)
   stays n m x (Whole at) is = is
@@ -143,8 +139,3 @@ has-home S section x o own none is = true≢false (sym (S.sound.has_table sectio
         → list_any (is_for section x) tables ≡ false
     no-table [] h = refl
     no-table (t ∷ tables) h = (λ i. h 0 t refl i || list_any (is_for section x) tables) ∙ no-table tables (λ at. h (suc at))
-
--- the table of a row's home is there
-pub home-within : (tables : List Table) (section : Section) (n x : ℕ) (home : Home) (at row : ℕ) → IsHome tables section n x (Some home) → home ≡ Row at row → at < length tables
-home-within tables section n x home at row is same =
-    slice_get_within tables at _ (subst (λ h. IsHome tables section n x (Some h)) same is).there

@@ -1,5 +1,5 @@
 -- One item of a scan: where what it reads is told as the trace has it, its value or truth is the trace's.
-use Rattle.std.proofs.Common.{◌≡◌, ◌∙◌, sym, ap, refl, ℕ, zero, suc, ◌-◌, ◌<◌, ◌≤◌, ℤ, pos, Bool, false, List, [], ◌∷◌, ◌++◌, length, slice_get, Some, arith, ⊎_elim}
+use Rattle.std.proofs.Common.{◌≡◌, ◌∙◌, sym, ap, subst, refl, ℕ, zero, suc, ◌-◌, ◌<◌, ◌≤◌, ℤ, pos, Bool, false, List, [], ◌∷◌, ◌++◌, length, slice_get, Some, arith, ⊎_elim}
 use Rattle.std.specs.Prelude.{IsTrue}
 use Rattle.std.specs.List.{flat_map}
 use Rattle.std.proofs.lemmas.Bool.{cases_lt}
@@ -20,27 +20,23 @@ use Rattle.ft_mean.specs.Past.{held, hyst}
 use Rattle.ft_mean.specs.Proper.{AllProper}
 use Rattle.ft_mean.specs.Reading.{Reading, IsVar, begun, since}
 use Rattle.ft_mean.specs.Value.{View, truth, value}
-use Rattle.ft_mean.proofs.Agree.{AllSame, same_truth, same_value}
-use Rattle.ft_mean.proofs.MemoryLemmas.{look_local, memory_at-is}
-use Rattle.ft_mean.proofs.OneScan.{TableOf, Answer, table_of, defined_same, answer}
-use Rattle.ft_mean.proofs.PastLemmas.{same_held, same_hyst}
-use Rattle.ft_mean.proofs.WellFormed.{opened, IsWellFormed}
+use Rattle.ft_mean.specs.EvaluationLaws.{AllSame}
+use Rattle.ft_mean.specs.TableLaws.{TableOf, OneValue}
 use Rattle.ft_memo.specs.Timer.{held_after, truth_at, ago}
 use Rattle.ft_memo.specs.Band.{hyst_after, number_at}
+use Rattle.ft_scan.specs.Laws.{Laws}
 
-module _ (S : Tables) (proper : AllProper S) (s : Side) (a : Reading) (n : ℕ)
+module _ (L : Laws) (S : Tables) (proper : AllProper S) (s : Side) (a : Reading) (n : ℕ)
     (range : (j x : ℕ) (v : Var) → j ≤ n → slice_get S.vars x ≡ Some v → IsWithin v.range (a j x))
     (follows : Follows S (section_of s) (look S a n) (a n)) (F : View) where
-  abbrev wf : IsWellFormed S
-  wf = opened S
-
   module _ (x : ℕ) (v : Var) (is : IsVar S (defined_kinds (section_of s)) x v)
       (same : (o : TableOf S (section_of s) x) → AllSame F (look S a n) (flat_map cell_reads (cells_for x o.table.grid))) where
     alike : (z : ℤ) → defined S (section_of s) F x z ≡ defined S (section_of s) (look S a n) x z
-    alike z = let o = table_of S wf (section_of s) x v is in defined_same S wf (section_of s) F (look S a n) x z o (same o)
+    alike z = let o = L.has_table S (section_of s) x v is in L.same_defined S (section_of s) F (look S a n) x z
+        (subst (λ cs. AllSame F (look S a n) (flat_map cell_reads cs)) (sym o.cells_are) (same o))
 
-    one : Answer S (section_of s) (look S a n) x v.range
-    one = answer S wf proper (section_of s) (look S a n) x v is (λ o. look_local S wf a n range _)
+    one : OneValue S (section_of s) (look S a n) x v.range
+    one = L.one_value S proper (section_of s) (look S a n) x v is (λ k table there own. L.local S a n range _)
 
     -- some cell for it holds, and what a cell that holds gives is its value in the trace
     pub has_value : (z : ℤ) × IsTrue (defined S (section_of s) F x z)
@@ -54,7 +50,7 @@ begun_none : (S : Tables) (a : Reading) (t : ℕ) → begun S a t ≡ zero
 begun_none S a zero = refl
 begun_none S a (suc t) = begun_none S a t
 
-module _ (S : Tables) (a : Reading) (n m : ℕ) (F : View) where
+module _ (L : Laws) (S : Tables) (a : Reading) (n m : ℕ) (F : View) where
   abbrev here : ℕ → View
   here = at_scan S a (memory_at S a)
 
@@ -66,13 +62,13 @@ module _ (S : Tables) (a : Reading) (n m : ℕ) (F : View) where
       let now = truth F c in
       let last : length (truths ++ now ∷ []) - 1 ≡ n = omega (arith, length_push truths now, long) in
       ap (λ t. held 0 (ago S.period t) hold (truth_at (truths ++ now ∷ [])) t) last
-      ∙ same_held 0 (ago S.period n) hold (truth_at (truths ++ now ∷ [])) (λ j. truth (here j) c) n (λ j l. ⊎_elim
+      ∙ L.same_held 0 (ago S.period n) hold (truth_at (truths ++ now ∷ [])) (λ j. truth (here j) c) n (λ j l. ⊎_elim
       (λ less. get_or_append_left truths (now ∷ []) false j (omega (arith, less, long)) ∙ told j less)
       (λ most. let eq : n ≡ j = omega (arith, l, most) in
-      get_or_push truths now false j (long ∙ eq) ∙ same_truth F (here n) c same ∙ ap (λ i. truth (here i) c) eq)
+      get_or_push truths now false j (long ∙ eq) ∙ L.same_truth F (here n) c same ∙ ap (λ i. truth (here i) c) eq)
       (cases_lt j n))
       ∙ ap (λ from. held from (λ j. since S a j n) hold (λ j. truth (here j) c) n) (sym (begun_none S a n))
-      ∙ sym (memory_at-is S (opened S).rank (opened S).order a m n ∙ ap (λ o. remembered S a (memory_at S a) o n) there)
+      ∙ sym (L.remember S a m n ∙ ap (λ o. remembered S a (memory_at S a) o n) there)
 
   -- the same of a band and its numbers
   pub band_is : (name : List ℕ) (side : Side) (e : Term) (lo hi : ℤ) (start : Bool) → slice_get S.memories m ≡ Some (Hyst name side e lo hi start) → (numbers : List ℤ)
@@ -82,13 +78,13 @@ module _ (S : Tables) (a : Reading) (n m : ℕ) (F : View) where
       let now = value F e in
       let last : length (numbers ++ now ∷ []) ≡ suc n = length_push numbers now ∙ omega (arith, long) in
       after lo hi start (numbers ++ now ∷ []) n last
-      ∙ same_hyst 0 lo hi start (number_at (numbers ++ now ∷ [])) (λ j. value (here j) e) n (λ j l. ⊎_elim
+      ∙ L.same_hyst 0 lo hi start (number_at (numbers ++ now ∷ [])) (λ j. value (here j) e) n (λ j l. ⊎_elim
       (λ less. get_or_append_left numbers (now ∷ []) (pos 0) j (omega (arith, less, long)) ∙ told j less)
       (λ most. let eq : n ≡ j = omega (arith, l, most) in
-      get_or_push numbers now (pos 0) j (long ∙ eq) ∙ same_value F (here n) e same ∙ ap (λ i. value (here i) e) eq)
+      get_or_push numbers now (pos 0) j (long ∙ eq) ∙ L.same_value F (here n) e same ∙ ap (λ i. value (here i) e) eq)
       (cases_lt j n))
       ∙ ap (λ from. hyst from lo hi start (λ j. value (here j) e) n) (sym (begun_none S a n))
-      ∙ sym (memory_at-is S (opened S).rank (opened S).order a m n ∙ ap (λ o. remembered S a (memory_at S a) o n) there)
+      ∙ sym (L.remember S a m n ∙ ap (λ o. remembered S a (memory_at S a) o n) there)
     where
       after : (lo hi : ℤ) (start : Bool) (xs : List ℤ) (k : ℕ) → length xs ≡ suc k → hyst_after lo hi start xs ≡ hyst 0 lo hi start (number_at xs) k
       after lo hi start [] k e = absurd (omega (arith, e))

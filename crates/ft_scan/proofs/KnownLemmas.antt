@@ -13,9 +13,9 @@ use Rattle.ft_core.specs.Reads.{Read, at_now, at_before, of_memory, of_age, cell
 use Rattle.ft_mean.specs.Memory.{at_scan, memory_at, look}
 use Rattle.ft_mean.specs.Reading.{Reading}
 use Rattle.ft_mean.specs.Value.{truth}
-use Rattle.ft_mean.proofs.Agree.{Same, AllSame, same_truth}
-use Rattle.ft_mean.proofs.OneScan.{TableOf}
-use Rattle.ft_mean.proofs.WellFormed.{in_all, is_for_from}
+use Rattle.ft_mean.specs.EvaluationLaws.{Same, AllSame}
+use Rattle.ft_mean.specs.TableLaws.{TableOf}
+use Rattle.ft_scan.proofs.Ground.{in_all, is_for_from}
 use Rattle.ft_scan.specs.declared.plan.Step.{Step}
 use Rattle.ft_scan.specs.declared.plan.Step.TheVariants as step
 use Rattle.ft_scan.specs.declared.frame.Frame.{Frame}
@@ -23,6 +23,7 @@ use Rattle.ft_scan.specs.Frame.{view_of}
 use Rattle.ft_scan.specs.Plan.{Makes, IsKnown, AreKnown}
 use Rattle.ft_scan.specs.Told.{IsTold, IsRight}
 use Rattle.ft_scan.proofs.FrameLemmas.{of_kinds}
+use Rattle.ft_scan.specs.Laws.{Laws}
 
 -- the variable or memory of a read, and whether it is a variable at this scan
 abbrev number_of : Read → ℕ
@@ -37,7 +38,7 @@ is_now (at_before x) = false
 is_now (of_memory m) = false
 is_now (of_age m) = false
 
-module _ (S : Tables) (s : Side) (steps : List Step) (a : Reading) (n p : ℕ) (frame : Frame) (told : IsTold S s steps a n p frame) where
+module _ (L : Laws) (S : Tables) (s : Side) (steps : List Step) (a : Reading) (n p : ℕ) (frame : Frame) (told : IsTold S s steps a n p frame) where
   made_now : (x : ℕ) (one : Step) → Makes one (at_now x) → IsRight S s a n one frame → slice_index_or frame.now x (pos 0) ≡ a n x
   made_now x (step.Column table) makes right = absurd makes
   made_now x (step.Cell y table) makes right = subst (λ z. slice_index_or frame.now z (pos 0) ≡ a n z) (sym (ap number_of makes)) right
@@ -61,16 +62,16 @@ module _ (S : Tables) (s : Side) (steps : List Step) (a : Reading) (n p : ℕ) (
   -- a condition of a list of them whose reads are known, or a variable's cells, are seen alike
   pub truth_known : (q : ℕ) → q ≤ p → (conds : List Cond) → AreKnown S s steps q (flat_map cond_reads conds) → (k : ℕ) (c : Cond) → slice_get conds k ≡ Some c
       → truth (view_of frame) c ≡ truth (look S a n) c
-  truth_known q low conds known k c at = same_truth (view_of frame) (look S a n) c
+  truth_known q low conds known k c at = L.same_truth (view_of frame) (look S a n) c
       (λ r reads. known_same q low r (known r (in_all cond_reads conds k c r at reads)))
 
   pub cells_known : (x place : ℕ) (table : Table) → slice_get S.tables place ≡ Some table → IsTrue (is_for (section_of s) x table)
       → AreKnown S s steps p (flat_map cell_reads (cells_for x table.grid)) → (o : TableOf S (section_of s) x)
       → AllSame (view_of frame) (look S a n) (flat_map cell_reads (cells_for x o.table.grid))
   cells_known x place table there mine known o r reads =
-      let own : IsTrue (is_for (section_of s) x o.table) = is_for_from (section_of s) x o.table o.is.1 o.defines_it in
-      let place_is : o.place ≡ place = S.sound.one_table (section_of s) x o.place place o.table table o.is.0 there own mine in
-      let is : o.table ≡ table = same_Some o.table table (sym o.is.0 ∙ ap (slice_get S.tables) place_is ∙ there) in
+      let own : IsTrue (is_for (section_of s) x o.table) = is_for_from (section_of s) x o.table o.section_is o.defines_it in
+      let place_is : o.place ≡ place = S.sound.one_table (section_of s) x o.place place o.table table o.there there own mine in
+      let is : o.table ≡ table = same_Some o.table table (sym o.there ∙ ap (slice_get S.tables) place_is ∙ there) in
       known_same p (omega arith) r (known r (subst (λ (t : Table). Contains (flat_map cell_reads (cells_for x t.grid)) r) is reads))
 
   here_same : (r : Read) → IsKnown S s steps p r → Same (view_of frame) (at_scan S a (memory_at S a) n) r

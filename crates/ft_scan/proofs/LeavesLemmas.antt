@@ -13,12 +13,12 @@ use Rattle.ft_core.specs.declared.tables.Memory.TheVariants.{Held, Hyst}
 use Rattle.ft_core.specs.declared.tables.Grid.TheVariants.{Vector}
 use Rattle.ft_core.specs.Kinds.{defined_kinds, section_of}
 use Rattle.ft_core.specs.Reads.{memory_reads, cond_reads}
-use Rattle.ft_core.proofs.PlaceLemmas.{set-here, set-there}
+use Rattle.ft_core.specs.Places.{set-here, set-there}
 use Rattle.ft_mean.specs.Memory.{at_scan, memory_at, look}
 use Rattle.ft_mean.specs.Proper.{AllProper}
 use Rattle.ft_mean.specs.Reading.{Reading}
 use Rattle.ft_mean.specs.Value.{View, truth, value}
-use Rattle.ft_mean.proofs.Agree.{AllSame, same_truth, same_value}
+use Rattle.ft_mean.specs.EvaluationLaws.{AllSame}
 use Rattle.ft_memo.specs.Timer.{held_after}
 use Rattle.ft_memo.specs.Band.{hyst_after}
 use Rattle.ft_scan.specs.declared.plan.Step.{Step}
@@ -35,6 +35,7 @@ use Rattle.ft_scan.proofs.ItemLemmas.{is_value, timer_is, band_is}
 use Rattle.ft_scan.proofs.KnownLemmas.{truth_known, cells_known, all_here}
 use Rattle.ft_scan.proofs.TableLemmas.{found_defined}
 use Rattle.ft_scan.proofs.VectorLemmas.{same_columns, same_targets, is_for_target}
+use Rattle.ft_scan.specs.Laws.{Laws}
 
 -- a list of what scans told has one more after a scan
 one_more_told : {X : Type 0} (xs ys : List X) (x d : X) (n : ℕ) (f : ℕ → X) → ys ≡ xs ++ x ∷ [] → length xs ≡ n → ((j : ℕ) → j < n → slice_index_or xs j d ≡ f j) → x ≡ f n
@@ -49,33 +50,34 @@ one_more_told xs ys x d n f more long told last =
           (cases_lt j n),
     )
 
--- a memory that goes on is told one more scan, and says what it says in the reading
-advanced : (S : Tables) (a : Reading) (n m : ℕ) (V : View) (memory : Memory) (run next : Running) (says : Bool) → slice_get S.memories m ≡ Some memory
-    → AllSame V (at_scan S a (memory_at S a) n) (memory_reads (Some memory)) → IsRunOf S.period memory run → WasTold S a n memory run → Advances V memory run next says
-    → IsRunOf S.period memory next × WasTold S a (suc n) memory next × (says ≡ memory_at S a m n)
-advanced S a n m V (Held name s c hold) (Timer t) (Timer u) says there same is was goes =
-    let hold_is = goes.0 ∙ is.0 in
-    let period_is = goes.1 ∙ is.1 in
-    let list_is = goes.2 in (
-      (hold_is, period_is),
-      one_more_told t.truths u.truths (truth V c) false n (λ j. truth (at_scan S a (memory_at S a) j) c) list_is was.0 was.1 (same_truth V (at_scan S a (memory_at S a) n) c same),
-      goes.3 ∙ (λ i. held_after (hold_is i) (period_is i) (list_is i)) ∙ timer_is S a n m V name s c hold there t.truths was.0 was.1 same,
-    )
-advanced S a n m V (Hyst name s e lo hi start) (Band b) (Band u) says there same is was goes =
-    let lo_is = goes.0 ∙ is.0 in
-    let hi_is = goes.1 ∙ is.1 in
-    let start_is = goes.2 ∙ is.2 in
-    let list_is = goes.3 in (
-      (lo_is, hi_is, start_is),
-      one_more_told b.numbers u.numbers (value V e) (pos 0) n (λ j. value (at_scan S a (memory_at S a) j) e) list_is was.0 was.1 (same_value V (at_scan S a (memory_at S a) n) e same),
-      goes.4 ∙ (λ i. hyst_after (lo_is i) (hi_is i) (start_is i) (list_is i)) ∙ band_is S a n m V name s e lo hi start there b.numbers was.0 was.1 same,
-    )
-advanced S a n m V (Held name s c hold) (Timer t) (Band u) says there same is was goes = absurd goes
-advanced S a n m V (Held name s c hold) (Band t) next says there same is was goes = absurd is
-advanced S a n m V (Hyst name s e lo hi start) (Band t) (Timer u) says there same is was goes = absurd goes
-advanced S a n m V (Hyst name s e lo hi start) (Timer t) next says there same is was goes = absurd is
+module _ (L : Laws) where
+  -- a memory that goes on is told one more scan, and says what it says in the reading
+  advanced : (S : Tables) (a : Reading) (n m : ℕ) (V : View) (memory : Memory) (run next : Running) (says : Bool) → slice_get S.memories m ≡ Some memory
+      → AllSame V (at_scan S a (memory_at S a) n) (memory_reads (Some memory)) → IsRunOf S.period memory run → WasTold S a n memory run → Advances V memory run next says
+      → IsRunOf S.period memory next × WasTold S a (suc n) memory next × (says ≡ memory_at S a m n)
+  advanced S a n m V (Held name s c hold) (Timer t) (Timer u) says there same is was goes =
+      let hold_is = goes.0 ∙ is.0 in
+      let period_is = goes.1 ∙ is.1 in
+      let list_is = goes.2 in (
+        (hold_is, period_is),
+        one_more_told t.truths u.truths (truth V c) false n (λ j. truth (at_scan S a (memory_at S a) j) c) list_is was.0 was.1 (L.same_truth V (at_scan S a (memory_at S a) n) c same),
+        goes.3 ∙ (λ i. held_after (hold_is i) (period_is i) (list_is i)) ∙ (timer_is L) S a n m V name s c hold there t.truths was.0 was.1 same,
+      )
+  advanced S a n m V (Hyst name s e lo hi start) (Band b) (Band u) says there same is was goes =
+      let lo_is = goes.0 ∙ is.0 in
+      let hi_is = goes.1 ∙ is.1 in
+      let start_is = goes.2 ∙ is.2 in
+      let list_is = goes.3 in (
+        (lo_is, hi_is, start_is),
+        one_more_told b.numbers u.numbers (value V e) (pos 0) n (λ j. value (at_scan S a (memory_at S a) j) e) list_is was.0 was.1 (L.same_value V (at_scan S a (memory_at S a) n) e same),
+        goes.4 ∙ (λ i. hyst_after (lo_is i) (hi_is i) (start_is i) (list_is i)) ∙ (band_is L) S a n m V name s e lo hi start there b.numbers was.0 was.1 same,
+      )
+  advanced S a n m V (Held name s c hold) (Timer t) (Band u) says there same is was goes = absurd goes
+  advanced S a n m V (Held name s c hold) (Band t) next says there same is was goes = absurd is
+  advanced S a n m V (Hyst name s e lo hi start) (Band t) (Timer u) says there same is was goes = absurd goes
+  advanced S a n m V (Hyst name s e lo hi start) (Timer t) next says there same is was goes = absurd is
 
-module _ (S : Tables) (proper : AllProper S) (s : Side) (steps : List Step) (plan : IsPlan S s steps) (a : Reading) (n : ℕ) (scan : IsScan S s a n)
+module _ (L : Laws) (S : Tables) (proper : AllProper S) (s : Side) (steps : List Step) (plan : IsPlan S s steps) (a : Reading) (n : ℕ) (scan : IsScan S s a n)
     (p : ℕ) (frame : Frame) (told : IsTold S s steps a n p frame) where
   abbrev V : View
   V = view_of frame
@@ -154,7 +156,7 @@ module _ (S : Tables) (proper : AllProper S) (s : Side) (steps : List Step) (pla
           there = finds.there;
           condition = finds.condition;
           at = ap (slice_get finds.columns) (get_or-set_same frame.columns table finds.column 0 (omega (arith, at, told.is_frame.columns))) ∙ finds.at;
-          holds = sym (truth_known S s steps a n p frame told p (omega arith) finds.columns
+          holds = sym ((truth_known L) S s steps a n p frame told p (omega arith) finds.columns
               (subst (λ cs. AreKnown S s steps p (flat_map cond_reads cs))
               (same_columns S s table can.columns finds.columns can.targets finds.targets can.terms finds.terms can.there finds.there) can.known)
               finds.column finds.condition finds.at)
@@ -199,7 +201,7 @@ module _ (S : Tables) (proper : AllProper S) (s : Side) (steps : List Step) (pla
   cell_keeps : (x table : ℕ) → CanFindCell S s steps p x table → (next : Frame) → FindsCell S s x frame next → Keeps (step.Cell x table) next
   cell_keeps x table can next finds =
       let v = of_kinds S.vars (defined_kinds (section_of s)) x can.defined in
-      let is = is_value S proper s a n scan.in_range scan.follows V x v.0 (v.1, v.2) (cells_known S s steps a n p frame told x table can.there.table can.there.there can.there.is_for_it can.known) finds.z finds.is in
+      let is = (is_value L) S proper s a n scan.in_range scan.follows V x v.0 (v.1, v.2) ((cells_known L) S s steps a n p frame told x table can.there.table can.there.there can.there.is_for_it can.known) finds.z finds.is in
       subst (Keeps (step.Cell x table)) (sym finds.leaves) (value_keeps x v.0 v.1 finds.z is (step.Cell x table) (set_here x v.0 v.1 finds.z is))
 
   -- an entry in the column that was found is that of the cell that holds
@@ -215,11 +217,11 @@ module _ (S : Tables) (proper : AllProper S) (s : Side) (steps : List Step) (pla
       (same_columns S s table first.columns finds.columns first.targets finds.targets first.terms finds.terms first.there finds.there) first.known in
       let target = subst (λ ts. slice_get ts row ≡ Some x)
       (same_targets S s table can.columns finds.columns can.targets finds.targets can.terms finds.terms can.there finds.there) can.target in
-      let holds = truth_known S s steps a n p frame told before.0 (omega (arith, before.1)) finds.columns known (slice_index_or frame.columns table 0) found.condition at ∙ found.holds in
-      is_value S proper s a n scan.in_range scan.follows V x v.0 (v.1, v.2) (cells_known S s steps a n p frame told x table
+      let holds = (truth_known L) S s steps a n p frame told before.0 (omega (arith, before.1)) finds.columns known (slice_index_or frame.columns table 0) found.condition at ∙ found.holds in
+      (is_value L) S proper s a n scan.in_range scan.follows V x v.0 (v.1, v.2) ((cells_known L) S s steps a n p frame told x table
       (record { section = section_of s; grid = Vector can.columns can.targets can.terms }) can.there
       (is_for_target S s table can.columns can.targets can.terms can.there row x can.target) can.known) (value V finds.term)
-      (found_defined S (section_of s) x table (record { section = section_of s; grid = Vector finds.columns finds.targets finds.terms }) finds.there
+      ((found_defined L) S (section_of s) x table (record { section = section_of s; grid = Vector finds.columns finds.targets finds.terms }) finds.there
       (is_for_target S s table finds.columns finds.targets finds.terms finds.there row x target) V (value V finds.term)
       (vector_gives V x finds.columns finds.targets finds.terms row x (value V finds.term) target (eq-eqb x x refl)
       (slice_index_or frame.columns table 0, found.condition, finds.term, at, finds.at, holds, refl)))
@@ -237,8 +239,8 @@ module _ (S : Tables) (proper : AllProper S) (s : Side) (steps : List Step) (pla
     goes_right =
         let ran = told.waits m p (omega arith) at goes.memory goes.there in
         let is = same_Some ran.0 goes.run (sym ran.1 ∙ goes.ran) in
-        advanced S a n m V goes.memory goes.run goes.next goes.says goes.there
-        (all_here S s steps a n p frame told (memory_reads (Some goes.memory)) (subst (λ o. AreKnown S s steps p (memory_reads o)) goes.there can.known))
+        (advanced L) S a n m V goes.memory goes.run goes.next goes.says goes.there
+        ((all_here L) S s steps a n p frame told (memory_reads (Some goes.memory)) (subst (λ o. AreKnown S s steps p (memory_reads o)) goes.there can.known))
         (subst (IsRunOf S.period goes.memory) is ran.2) (subst (WasTold S a n goes.memory) is ran.3) goes.advances
 
     next_run : slice_get next.runs.items m ≡ Some goes.next

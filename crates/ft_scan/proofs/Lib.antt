@@ -2,8 +2,8 @@ pub mod CanTakeLemmas
 pub mod ColumnLemmas
 pub mod FillLemmas
 pub mod FoundLemmas
-pub mod FourthLemmas
 pub mod FrameLemmas
+pub mod Ground
 pub mod HomeLemmas
 pub mod ImageLemmas
 pub mod ItemLemmas
@@ -19,8 +19,6 @@ pub mod PlanReads
 pub mod PutLemmas
 pub mod RowLemmas
 pub mod RunLemmas
-pub mod SmallSet
 pub mod StandsLemmas
 pub mod TableLemmas
-pub mod TripProper
 pub mod VectorLemmas

@@ -9,7 +9,7 @@ use Rattle.ft_core.specs.Kinds.{defined_kinds, section_of, is_of}
 use Rattle.ft_core.specs.Items.{IsScanOrder}
 use Rattle.ft_core.specs.Reads.{Read, at_now, at_before, of_memory, of_age}
 use Rattle.ft_core.specs.Sound.{is_memory_of}
-use Rattle.ft_core.proofs.PlaceLemmas.{on-left, of-push, at-end, of-set, set-here, set-there, of-replicate, none-at}
+use Rattle.ft_core.specs.Places.{on-left, of-push, at-end, of-set, set-here, set-there, of-replicate, none-at}
 use Rattle.ft_scan.specs.declared.homes.Home.{Home}
 use Rattle.ft_scan.specs.declared.homes.Home.TheVariants.{Whole, Row}
 use Rattle.ft_scan.specs.declared.plan.Planned.{Planned}
@@ -19,6 +19,7 @@ use Rattle.ft_scan.specs.Homes.{IsHome, IsRowHome}
 use Rattle.ft_scan.specs.Plan.{Makes, IsMade, IsKnown, CanFindColumn, CanFollow, IsPlan}
 use Rattle.ft_scan.specs.Planning.{Keeps, Adds, FirstColumn, AddsHome, AddsItem, item_of, IsRightSoFar, HasMade, IsSoFar}
 use Rattle.ft_scan.proofs.PlanReads.{known-cells, known-entries, known-columns, known-memory, of-within, memory-within}
+use Rattle.ft_scan.specs.Laws.{Laws}
 
 -- what stands in a list of steps stands at the same place in a longer one
 abbrev Begins : (steps more : List Step) → Type 0
@@ -49,7 +50,7 @@ module _ (S : Tables) (s : Side) (steps more : List Step) (begins : Begins steps
     target = can.target;
     defined = can.defined;
   }
-  follows-more n (step.Cell x table) can = record { there = can.there; defined = can.defined; known = λ r c. known-more n r (can.known r c) }
+  follows-more n (step.Cell x table) can = record { there = can.there; whole = can.whole; defined = can.defined; known = λ r c. known-more n r (can.known r c) }
   follows-more n (step.Entry x table row) can = record {
     columns = can.columns;
     targets = can.targets;
@@ -72,7 +73,7 @@ grown one old new is = (pushed old.steps new.steps one is, let more = ap length 
 same-planned : (old new : Planned) → Keeps old new → new ≡ old
 same-planned old new keeps = λ i. record { steps = keeps.steps i; columns = keeps.columns i }
 
-module _ (S : Tables) (s : Side) (order : List ℕ) where
+module _ (L : Laws) (S : Tables) (s : Side) (order : List ℕ) where
   -- what is one more may follow
   follows-push : (steps more : List Step) (one : Step) → more ≡ steps ++ one ∷ [] → ((n : ℕ) (two : Step) → slice_get steps n ≡ Some two → CanFollow S s steps n two)
       → CanFollow S s steps (length steps) one → (n : ℕ) (two : Step) → slice_get more n ≡ Some two → CanFollow S s more n two
@@ -233,14 +234,15 @@ module _ (S : Tables) (s : Side) (order : List ℕ) where
           target = home.target;
           defined = own;
           found = let q = mid_so.stands table stands in (q.0, slice_get_within mid.steps q.0 (step.Column table) q.1, q.1);
-          known = known-entries S s order right at k here mid mid_made within table row home.columns home.targets home.terms home.there home.target;
+          known = (known-entries L) S s order right at k here mid mid_made within table row home.columns home.targets home.terms home.there home.target;
         }) adds
 
         home-made : (home : Home) → IsHome S.tables (section_of s) (length S.tables) k (Some home) → AddsHome k home old new → IsNext
         home-made (Whole table) home adds = variable-made (step.Cell k table) old so made refl refl (record {
           there = home.table;
+          whole = home.whole;
           defined = own;
-          known = known-cells S s order right at k here old made within table home.table.table home.table.there home.table.is_for_it;
+          known = (known-cells L) S s order right at k here old made within table home.table.table home.table.there home.table.is_for_it;
         }) adds
         home-made (Row table row) home (mid, column, adds) = ⊎_elim
             (λ stood. let same = same-planned old mid stood.1 in
@@ -252,7 +254,7 @@ module _ (S : Tables) (s : Side) (order : List ℕ) where
               targets = home.targets;
               terms = home.terms;
               there = home.there;
-              known = known-columns S s order right at k here old made within table row home.columns home.targets home.terms home.there home.target;
+              known = (known-columns L) S s order right at k here old made within table row home.columns home.targets home.terms home.there home.target;
               row = row;
               variable = k;
               target = home.target;
@@ -272,7 +274,7 @@ module _ (S : Tables) (s : Side) (order : List ℕ) where
 
       memory-made : (m : ℕ) → k ≡ length S.vars + m → is_memory_of S.memories s m ≡ true → Adds (step.Memory m) old new → IsNext
       memory-made m is own adds = (
-        next-step (step.Memory m) old new so (ap Some (sym is)) (record { there = own; known = known-memory S s order right at k here old made m is own }) adds,
+        next-step (step.Memory m) old new so (ap Some (sym is)) (record { there = own; known = (known-memory L) S s order right at k here old made m is own }) adds,
         made-next new (still-made old new (grown (step.Memory m) old new adds.steps) made)
             (λ x same other. let within = of-within S.vars (defined_kinds (section_of s)) x other in absurd (omega (arith, within, same, is)))
             (λ j same other. let one : m ≡ j = omega (arith, is, same) in

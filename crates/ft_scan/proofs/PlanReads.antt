@@ -19,19 +19,19 @@ use Rattle.ft_core.specs.Grids.{cells_for, defines, is_section, is_for, is_shape
 use Rattle.ft_core.specs.Items.{item, item_read, IsScanOrder}
 use Rattle.ft_core.specs.Reads.{Read, at_now, at_before, of_memory, of_age, cond_reads, memory_reads, grid_reads, cell_reads}
 use Rattle.ft_core.specs.Sound.{side_of, is_side, is_memory_of, on_side, may_read, item_reads}
-use Rattle.ft_mean.proofs.CellLemmas.{own_reads}
-use Rattle.ft_mean.proofs.WellFormed.{in_all, of_side, same_section, same_side, is_for_from}
+use Rattle.ft_scan.proofs.Ground.{in_all, of_side, same_section, same_side, is_for_from}
 use Rattle.ft_scan.specs.Plan.{IsKnown, AreKnown}
 use Rattle.ft_scan.specs.Planning.{HasMade}
 use Rattle.ft_scan.specs.declared.plan.Planned.{Planned}
 use Rattle.ft_scan.proofs.ColumnLemmas.{column-reads}
 use Rattle.ft_scan.proofs.TableLemmas.{all_at}
+use Rattle.ft_scan.specs.Laws.{Laws}
 
 -- a variable that stands in a set stands at a place
 pub of-within : (vars : List Var) (kinds : Kinds) (x : ℕ) → is_of vars kinds x ≡ true → x < length vars
 of-within vars kinds x is = go (slice_get vars x) refl is
   where
-    go : (o : Option Var) → slice_get vars x ≡ o → elim o as (λ z. Bool) [ None ↦ false | Some v ↦ kinds v.kind ] ≡ true → x < length vars
+    go : (o : Option Var) → slice_get vars x ≡ o → elim o as (λ z. Bool) [ None ↦ false | Some v ↦ kinds x v ] ≡ true → x < length vars
     go None e t = absurd (true≢false (sym t))
     go (Some v) e t = slice_get_within vars x v e
 
@@ -47,16 +47,16 @@ memory-within memories s m is = go (slice_get memories m) refl is
 side-cases : (vars : List Var) (s : Side) (x : ℕ) → is_of vars (side_kinds s) x ≡ true → (is_of vars (given_kinds s) x ≡ true) ⊎ (is_of vars (defined_kinds (section_of s)) x ≡ true)
 side-cases vars s x is = go (slice_get vars x) is
   where
-    go : (o : Option Var) → elim o as (λ z. Bool) [ None ↦ false | Some v ↦ side_kinds s v.kind ] ≡ true
-        → (elim o as (λ z. Bool) [ None ↦ false | Some v ↦ given_kinds s v.kind ] ≡ true) ⊎ (elim o as (λ z. Bool) [ None ↦ false | Some v ↦ defined_kinds (section_of s) v.kind ] ≡ true)
+    go : (o : Option Var) → elim o as (λ z. Bool) [ None ↦ false | Some v ↦ side_kinds s x v ] ≡ true
+        → (elim o as (λ z. Bool) [ None ↦ false | Some v ↦ given_kinds s x v ] ≡ true) ⊎ (elim o as (λ z. Bool) [ None ↦ false | Some v ↦ defined_kinds (section_of s) x v ] ≡ true)
     go None t = absurd (true≢false (sym t))
-    go (Some v) t = or_cases (given_kinds s v.kind) (defined_kinds (section_of s) v.kind) t
+    go (Some v) t = or_cases (given_kinds s x v) (defined_kinds (section_of s) x v) t
 
 may-on : (vars : List Var) (memories : List Memory) (s : Side) (r : Read) → may_read vars memories (section_of s) r ≡ true → on_side vars memories s r ≡ true
 may-on vars memories side.Req r e = e
 may-on vars memories side.Sof r e = e
 
-module _ (S : Tables) (s : Side) (order : List ℕ) (right : IsScanOrder (length S.vars) S.memories S.tables order) (at k : ℕ) (here : slice_get order at ≡ Some k)
+module _ (L : Laws) (S : Tables) (s : Side) (order : List ℕ) (right : IsScanOrder (length S.vars) S.memories S.tables order) (at k : ℕ) (here : slice_get order at ≡ Some k)
     (planned : Planned) (made : HasMade S s order at planned) where
   -- an item that this one reads
   earlier : (r : Read) (q : ℕ) → Contains (item_reads S.memories S.tables (item (length S.vars) k)) r → item_read (length S.vars) (length S.memories) r ≡ Some q
@@ -106,7 +106,7 @@ module _ (S : Tables) (s : Side) (order : List ℕ) (right : IsScanOrder (length
         (subst (λ i. Contains (item_reads S.memories S.tables i) r) (sym item-is)
         (in_all (λ (t : Table). cond (is_for section.Req k t || is_for section.Sof k t) (flat_map cell_reads (cells_for k t.grid)) []) S.tables place table r there
         (subst (λ b. Contains (cond b (flat_map cell_reads (cells_for k table.grid)) []) r) (sym (of_side s k table own)) c)))
-        (own-table place table k r there own (own_reads table.grid k r c))
+        (own-table place table k r there own (L.own_reads table.grid k r c))
 
     -- the same of a row of a vector table
     module _ (place row : ℕ) (columns : List Cond) (targets : List ℕ) (terms : List (List Term))

@@ -19,13 +19,11 @@ use Rattle.ft_mean.specs.Allowed.{nat_at}
 use Rattle.ft_mean.specs.Value.{View, truth}
 use Rattle.ft_mean.specs.Reading.{IsListOf, reading_of, init_of}
 use Rattle.ft_mean.specs.Memory.{look}
-use Rattle.ft_mean.proofs.Agree.{Same}
-use Rattle.ft_mean.proofs.CellLemmas.{all_alike}
-use Rattle.ft_mean.proofs.Passes.{from_one}
-use Rattle.ft_mean.proofs.Traces.{reading_range}
-use Rattle.ft_mean.proofs.WellFormed.{opened}
+use Rattle.ft_mean.specs.EvaluationLaws.{Same}
+use Rattle.ft_scan.proofs.Ground.{from_one}
 use Rattle.ft_scan.specs.Rows.{row_view}
 use Rattle.ft_mean.specs.Safe.{KeepsSizes, AreSafeConds}
+use Rattle.ft_scan.specs.Laws.{Laws}
 
 within_size : (range : ℤ × ℤ) (z : ℤ) → IsWithin range z → unsigned_abs z ≤ max 1 (max (unsigned_abs range.0) (unsigned_abs range.1))
 within_size range z h = grind (arith, ints, h.0, h.1)
@@ -52,17 +50,17 @@ init_range S x v e = subst (λ z. IsWithin v.range z) (sym (ap (λ o. elim o as 
 
 pub no_reading : (S : Tables) (kinds : Kinds) (row : List ℤ) (x : ℕ) → slice_get S.vars x ≡ None → reading_of S kinds (row ∷ []) 0 x ≡ pos 0
 no_reading S kinds row x e =
-    cond-false (is_of S.vars kinds x) _ (init_of S x) (ap (λ o. elim o as (λ z. Bool) [ None ↦ false | Some v ↦ kinds v.kind ]) e) ∙ no_init S x e
+    cond-false (is_of S.vars kinds x) _ (init_of S x) (ap (λ o. elim o as (λ z. Bool) [ None ↦ false | Some v ↦ kinds x v ]) e) ∙ no_init S x e
 
-module _ (S : Tables) (kinds : Kinds) (row earlier : List ℤ) (begins : Bool) (now : IsListOf S kinds (row ∷ [])) (before : begins ≡ false → IsListOf S kinds (earlier ∷ [])) where
+module _ (L : Laws) (S : Tables) (kinds : Kinds) (row earlier : List ℤ) (begins : Bool) (now : IsListOf S kinds (row ∷ [])) (before : begins ≡ false → IsListOf S kinds (earlier ∷ [])) where
   pub row_keeps : KeepsSizes S.vars S.memories (row_view S kinds row earlier begins)
   row_keeps = record {
-    now = value_size S.vars (reading_of S kinds (row ∷ []) 0) (λ x v e. reading_range S (opened S) kinds (row ∷ []) now 0 x v (omega arith) e) (no_reading S kinds row);
+    now = value_size S.vars (reading_of S kinds (row ∷ []) 0) (λ x v e. L.in_range S kinds (row ∷ []) now 0 x v (omega arith) e) (no_reading S kinds row);
     before = value_size S.vars (λ x. if begins then init_of S x else reading_of S kinds (earlier ∷ []) 0 x)
         (λ x v e. ⊎_elim
         (λ is. subst (λ z. IsWithin v.range z) (sym (cond-true begins (init_of S x) (reading_of S kinds (earlier ∷ []) 0 x) is)) (init_range S x v e))
         (λ not_so. subst (λ z. IsWithin v.range z) (sym (cond-false begins (init_of S x) (reading_of S kinds (earlier ∷ []) 0 x) not_so))
-        (reading_range S (opened S) kinds (earlier ∷ []) (before not_so) 0 x v (omega arith) e))
+        (L.in_range S kinds (earlier ∷ []) (before not_so) 0 x v (omega arith) e))
         (cases_Bool begins))
         (λ x e. elim begins as (λ b. (if b then init_of S x else reading_of S kinds (earlier ∷ []) 0 x) ≡ pos 0) [ true ↦ no_init S x e | false ↦ no_reading S kinds earlier x e ]);
     age = λ m. no_age (slice_get S.memories m);
@@ -84,11 +82,12 @@ module _ (S : Tables) (kinds : Kinds) (row earlier : List ℤ) (begins : Bool) (
   pub safe_step : AreSafeConds (row_view S kinds row earlier begins) S.step
   safe_step = record { vars = S.vars; memories = S.memories; keeps = row_keeps; small = clauses_sized.2 }
 
--- clauses whose reads are seen alike hold alike
-clauses_alike : (may : Read → Bool) (conds : List Cond) (V W : View) → AllRead may conds → ((r : Read) → may r ≡ true → Same V W r)
-    → list_all (truth V) conds ≡ list_all (truth W) conds
-clauses_alike may conds V W all same =
-    all_alike V W conds (λ r c. let at = from_one cond_reads conds r c in same r (all at.0 at.1 r at.2 at.3))
+module _ (L : Laws) where
+  -- clauses whose reads are seen alike hold alike
+  clauses_alike : (may : Read → Bool) (conds : List Cond) (V W : View) → AllRead may conds → ((r : Read) → may r ≡ true → Same V W r)
+      → list_all (truth V) conds ≡ list_all (truth W) conds
+  clauses_alike may conds V W all same =
+      L.same_truths V W conds (λ r c. let at = from_one cond_reads conds r c in same r (all at.0 at.1 r at.2 at.3))
 
 module _ (S : Tables) (V W : View) (now : (x : ℕ) → V.now x ≡ W.now x) where
   now_alike : (r : Read) → now_of S.vars monitored r ≡ true → Same V W r
@@ -103,22 +102,24 @@ module _ (S : Tables) (V W : View) (now : (x : ℕ) → V.now x ≡ W.now x) whe
   step_alike past (of_memory m) may = absurd (true≢false (sym may))
   step_alike past (of_age m) may = absurd (true≢false (sym may))
 
--- the clauses at a row are those at the one scan of a list, or at the second of two
-pub begin_is : (S : Tables) (row : List ℤ) → (list_all (truth (row_view S monitored row [] true)) S.always && list_all (truth (row_view S monitored row [] true)) S.first)
-    ≡ nat_at S (reading_of S monitored (row ∷ [])) 0
-begin_is S row =
-    let V = row_view S monitored row [] true in
-    let W = look S (reading_of S monitored (row ∷ [])) 0 in
-    let always = clauses_alike (now_of S.vars monitored) S.always V W S.sound.always_reads (now_alike S V W (λ x. refl)) in
-    let first = clauses_alike (now_of S.vars monitored) S.first V W S.sound.first_reads (now_alike S V W (λ x. refl)) in
-    λ i. always i && first i
+module _ (L : Laws) where
+  -- the clauses at a row are those at the one scan of a list, or at the second of two
+  pub begin_is : (S : Tables) (row : List ℤ) → (list_all (truth (row_view S monitored row [] true)) S.always && list_all (truth (row_view S monitored row [] true)) S.first)
+      ≡ nat_at S (reading_of S monitored (row ∷ [])) 0
+  begin_is S row =
+      let V = row_view S monitored row [] true in
+      let W = look S (reading_of S monitored (row ∷ [])) 0 in
+      let always = (clauses_alike L) (now_of S.vars monitored) S.always V W S.sound.always_reads (now_alike S V W (λ x. refl)) in
+      let first = (clauses_alike L) (now_of S.vars monitored) S.first V W S.sound.first_reads (now_alike S V W (λ x. refl)) in
+      λ i. always i && first i
 
-pub follow_is : (S : Tables) (earlier row : List ℤ)
-    → (list_all (truth (row_view S monitored row earlier false)) S.always && list_all (truth (row_view S monitored row earlier false)) S.step)
-    ≡ nat_at S (reading_of S monitored (earlier ∷ row ∷ [])) 1
-follow_is S earlier row =
-    let V = row_view S monitored row earlier false in
-    let W = look S (reading_of S monitored (earlier ∷ row ∷ [])) 1 in
-    let always = clauses_alike (now_of S.vars monitored) S.always V W S.sound.always_reads (now_alike S V W (λ x. refl)) in
-    let next = clauses_alike (step_of S.vars monitored) S.step V W S.sound.step_reads (step_alike S V W (λ x. refl) (λ x. refl)) in
-    λ i. always i && next i
+module _ (L : Laws) where
+  pub follow_is : (S : Tables) (earlier row : List ℤ)
+      → (list_all (truth (row_view S monitored row earlier false)) S.always && list_all (truth (row_view S monitored row earlier false)) S.step)
+      ≡ nat_at S (reading_of S monitored (earlier ∷ row ∷ [])) 1
+  follow_is S earlier row =
+      let V = row_view S monitored row earlier false in
+      let W = look S (reading_of S monitored (earlier ∷ row ∷ [])) 1 in
+      let always = (clauses_alike L) (now_of S.vars monitored) S.always V W S.sound.always_reads (now_alike S V W (λ x. refl)) in
+      let next = (clauses_alike L) (step_of S.vars monitored) S.step V W S.sound.step_reads (step_alike S V W (λ x. refl) (λ x. refl)) in
+      λ i. always i && next i

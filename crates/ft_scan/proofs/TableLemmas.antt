@@ -12,9 +12,9 @@ use Rattle.ft_core.specs.Grids.{cells_for, is_for, is_shaped}
 use Rattle.ft_core.specs.Size.{is_sized_grid}
 use Rattle.ft_mean.specs.Value.{View, value}
 use Rattle.ft_mean.specs.Cells.{holding, cells_of, defined}
-use Rattle.ft_mean.proofs.CellLemmas.{cells_of-is}
 use Rattle.ft_scan.specs.Found.{IsFound, IsTableFor}
 use Rattle.ft_mean.specs.Safe.{KeepsSizes, IsSafeGrid}
+use Rattle.ft_scan.specs.Laws.{Laws}
 
 pub all_at : {A : Type 0} (test : A → Bool) (xs : List A) (k : ℕ) (x : A) → list_all test xs ≡ true → slice_get xs k ≡ Some x → test x ≡ true
 all_at test [] k x h e = absurd (none-some x e)
@@ -36,10 +36,9 @@ module _ (S : Tables) (place : ℕ) (table : Table) (there : slice_get S.tables 
     small = all_at (λ table. is_sized_grid S.vars S.memories table.grid) S.tables place table S.sound.sized_tables there;
   }
 
-module _ (S : Tables) (section : Section) (x place : ℕ) (table : Table) (there : slice_get S.tables place ≡ Some table) (mine : IsTrue (is_for section x table)) where
+module _ (L : Laws) (S : Tables) (section : Section) (x place : ℕ) (table : Table) (there : slice_get S.tables place ≡ Some table) (mine : IsTrue (is_for section x table)) where
   cells_are : cells_of S section x ≡ cells_for x table.grid
-  cells_are = cells_of-is S section x place table there mine
-      (λ l a other its. S.sound.one_table section x l place a table other there its mine)
+  cells_are = L.cells_are S section x place table there mine
 
   pub found_defined : (V : View) (z : ℤ) → IsFound V (cells_for x table.grid) (Some z) → IsTrue (defined S section V x z)
   found_defined V z found = ap (λ cs. list_any (λ cell. int_eq z (value V cell.term)) (holding V cs)) cells_are ∙ found

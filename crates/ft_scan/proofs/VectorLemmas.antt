@@ -14,9 +14,9 @@ use Rattle.ft_core.specs.declared.term.Cond.{Cond}
 use Rattle.ft_core.specs.declared.term.Term.{Term}
 use Rattle.ft_core.specs.Grids.{is_for, is_shaped}
 use Rattle.ft_core.specs.Kinds.{section_of}
-use Rattle.ft_core.proofs.PlaceLemmas.{some-at}
+use Rattle.ft_core.specs.Places.{some-at}
 use Rattle.ft_mean.specs.Value.{View, truth}
-use Rattle.ft_mean.proofs.WellFormed.{is_for_from}
+use Rattle.ft_scan.proofs.Ground.{is_for_from}
 use Rattle.ft_scan.specs.Found.{IsFirstTrue, IsTrueAt, IsOpenColumn}
 use Rattle.ft_scan.specs.Plan.{IsVector}
 use Rattle.ft_scan.proofs.TableLemmas.{all_at}

@@ -1,5 +1,5 @@
 -- What is found among the cells of a table.
-use Rattle.std.specs.Prelude.{ℕ, ◌≡◌, ◌<◌, ℤ, Bool, List, [], slice_get, slice_index_or, Option, Some, None, IsTrue, IsFalse}
+use Rattle.std.specs.Prelude.{ℕ, ◌≡◌, ◌<◌, ℤ, List, [], slice_get, slice_index_or, Option, Some, None, IsTrue, IsFalse}
 use Rattle.std.specs.List.{list_any}
 use Rattle.std.specs.Ordering.{int_eq}
 use Rattle.ft_core.specs.declared.term.Cond.{Cond}
@@ -18,14 +18,10 @@ IsInRow V conds terms None = (j : ℕ) (c : Cond) (e : Term) → slice_get conds
 IsInRow V conds terms (Some z) =
     (j : ℕ) × (c : Cond) × (e : Term) × (slice_get conds j ≡ Some c) × (slice_get terms j ≡ Some e) × IsTrue (truth V c) × (z ≡ value V e)
 
--- the same in a row that must itself pass
-abbrev pub IsInRowFor : View → (passes : Bool) → List Cond → List Term → Option ℤ → Type 0
-IsInRowFor V passes conds terms None = IsTrue passes → IsInRow V conds terms None
-IsInRowFor V passes conds terms (Some z) = IsTrue passes × IsInRow V conds terms (Some z)
-
 -- the same in a row with a condition of its own
 abbrev pub IsInHeadedRow : View → Cond → List Cond → List Term → Option ℤ → Type 0
-IsInHeadedRow V head = IsInRowFor V (truth V head)
+IsInHeadedRow V head conds terms None = IsTrue (truth V head) → IsInRow V conds terms None
+IsInHeadedRow V head conds terms (Some z) = IsTrue (truth V head) × IsInRow V conds terms (Some z)
 
 -- the value of the term of a cell that holds, or no cell holds
 abbrev pub IsFound : View → List Cell → Option ℤ → Type 0
@@ -49,6 +45,11 @@ IsOpenColumn V _ at = ⊥
 abbrev pub IsEntry : Grid → (row column : ℕ) → Term → Type 0
 IsEntry (Vector columns targets terms) row column e = slice_get (slice_index_or terms row []) column ≡ Some e
 IsEntry _ row column e = ⊥
+
+-- the table is normal or inverted
+abbrev pub IsWhole : Grid → Type 0
+IsWhole (Vector columns targets terms) = ⊥
+IsWhole _ = Unit {0}
 
 -- the table at this place is of the section and defines variable x
 pub record IsTableFor (tables : List Table) (section : Section) (x at : ℕ) : Type 0 where

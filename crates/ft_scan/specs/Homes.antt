@@ -7,14 +7,9 @@ use Rattle.ft_core.specs.declared.tables.Grid.TheVariants.{Normal, Inverted, Vec
 use Rattle.ft_core.specs.declared.term.Cond.{Cond}
 use Rattle.ft_core.specs.declared.term.Term.{Term}
 use Rattle.ft_core.specs.Grids.{defines, is_for}
-use Rattle.ft_scan.specs.Found.{IsTableFor}
+use Rattle.ft_scan.specs.Found.{IsTableFor, IsWhole}
 use Rattle.ft_scan.specs.declared.homes.Home.{Home}
 use Rattle.ft_scan.specs.declared.homes.Home.TheVariants.{Whole, Row}
-
--- the table is normal or inverted
-abbrev pub IsWhole : Grid → Type 0
-IsWhole (Vector columns targets terms) = ⊥
-IsWhole _ = Unit {0}
 
 -- the table at this place is a normal or an inverted table of the section, and for variable x
 pub record IsWholeHome (tables : List Table) (section : Section) (x at : ℕ) : Type 0 where

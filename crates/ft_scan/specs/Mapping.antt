@@ -3,26 +3,21 @@ use Rattle.std.specs.Prelude.{ℕ, ◌≡◌, ℤ, Bool, List, length, slice_get
 use Rattle.ft_core.specs.declared.tables.Tables.{Tables}
 use Rattle.ft_core.specs.declared.tables.Table.{Table}
 use Rattle.ft_core.specs.declared.tables.Var.{Var}
-use Rattle.ft_core.specs.declared.tables.VarKind.{VarKind}
 use Rattle.ft_core.specs.declared.tables.Section.{Section}
 use Rattle.ft_core.specs.declared.tables.Grid.TheVariants.{Vector}
 use Rattle.ft_core.specs.declared.term.Term.{Term}
 use Rattle.ft_core.specs.declared.term.Cond.{Cond}
 use Rattle.ft_core.specs.Grids.{is_section}
-use Rattle.ft_core.specs.Kinds.{of_kind, defined_kinds}
+use Rattle.ft_core.specs.Kinds.{defined_kinds, makes_image}
 use Rattle.ft_mean.specs.Cells.{defined}
 use Rattle.ft_mean.specs.Reading.{IsVar}
 use Rattle.ft_mean.specs.Value.{View}
 use Rattle.ft_scan.specs.Rows.{HasValues, row_value}
 use Rattle.ft_mean.specs.Safe.{KeepsSizes}
 
--- the section defines the variables of one kind
-abbrev pub IsOfOneKind : Section → Type 0
-IsOfOneKind section = (kind : VarKind) × (defined_kinds section ≡ of_kind kind)
-
--- such a section, at a view that keeps the sizes of the set and where some cell holds for each variable that it defines
+-- a section that makes an image, at a view that keeps the sizes of the set and where some cell holds for each variable that it defines
 pub record CanMap (S : Tables) (section : Section) (V : View) : Type 0 where
-  pub one_kind : IsOfOneKind section
+  pub image : IsTrue (makes_image section)
   pub keeps : KeepsSizes S.vars S.memories V
   pub some : HasValues S section V
 

@@ -12,7 +12,7 @@ use Rattle.ft_core.specs.Reads.{Read, at_now, at_before, of_memory, of_age, cond
 use Rattle.ft_core.specs.Sound.{item_reads, is_memory_of}
 use Rattle.ft_scan.specs.declared.plan.Step.{Step}
 use Rattle.ft_scan.specs.declared.plan.Step.TheVariants as step
-use Rattle.ft_scan.specs.Found.{IsTableFor}
+use Rattle.ft_scan.specs.Found.{IsTableFor, IsWhole}
 
 -- what a step makes known of the scan
 abbrev pub Makes : Step → Read → Type 0
@@ -54,6 +54,7 @@ pub record CanFindColumn (S : Tables) (s : Side) (steps : List Step) (n table : 
 -- a variable may be computed by a whole table
 pub record CanFindCell (S : Tables) (s : Side) (steps : List Step) (n variable table : ℕ) : Type 0 where
   pub there : IsTableFor S.tables (section_of s) variable table
+  pub whole : IsWhole there.table.grid
   pub defined : IsTrue (is_of S.vars (defined_kinds (section_of s)) variable)
   pub known : AreKnown S s steps n (flat_map cell_reads (cells_for variable there.table.grid))
 

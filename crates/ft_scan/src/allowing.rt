@@ -8,6 +8,7 @@ ghost use Rattle.ft_mean.specs.Safe.{AreSafeConds};
 ghost use Rattle.ft_mean.specs.Value.{truth};
 ghost use Rattle.ft_scan.specs.Allowing.{nat_after};
 
+use crate::law::laws;
 use crate::rows::Rows;
 use ft_core::{Cond, Tables, VarKind};
 use ft_mean::{Look, truth_of};
@@ -31,6 +32,7 @@ fn may_begin(tables: &Tables, now: &[i64]) -> bool
     requires { IsListOf tables.now monitored (now.now ∷ []) }
     ensures { result ≡ nat_at tables.now (reading_of tables.now monitored (now.now ∷ [])) 0 }
 {
+    laws();
     let rows = Rows {
         tables,
         kind: VarKind::Mon,
@@ -48,6 +50,7 @@ fn may_follow(tables: &Tables, earlier: &[i64], now: &[i64]) -> bool
     requires now { IsListOf tables.now monitored (now.now ∷ []) }
     ensures { result ≡ nat_at tables.now (reading_of tables.now monitored (earlier.now ∷ now.now ∷ [])) 1 }
 {
+    laws();
     let rows = Rows {
         tables,
         kind: VarKind::Mon,

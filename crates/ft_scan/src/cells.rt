@@ -1,11 +1,11 @@
-ghost use Rattle.std.specs.Prelude.{◌≡◌, ◌==◌, ℕ, [], slice_get, slice_index_or, IsTrue, MatchOption};
+ghost use Rattle.std.specs.Prelude.{◌≡◌, ℕ, [], slice_get, slice_index_or, IsTrue, MatchOption};
 ghost use Rattle.std.specs.Option.{option_map};
-ghost use Rattle.ft_core.specs.declared.tables.Grid.TheVariants.{Normal, Inverted, Vector};
+ghost use Rattle.ft_core.specs.declared.tables.Grid.TheVariants.{Normal, Inverted};
 ghost use Rattle.ft_core.specs.declared.term.Term.{Term};
 ghost use Rattle.ft_core.specs.Grids.{cells_for, defines};
 ghost use Rattle.ft_mean.specs.Safe.{IsSafeCond, IsSafeGrid, AreSafe, AreSafeConds, AreSafeCondRows, AreSafeRows};
 ghost use Rattle.ft_mean.specs.Value.{value};
-ghost use Rattle.ft_scan.specs.Found.{IsFirstTrue, IsTrueAt, IsEntry, IsFound, IsInHeadedRow, IsInRow, IsInRowFor, IsOpenColumn};
+ghost use Rattle.ft_scan.specs.Found.{IsFirstTrue, IsTrueAt, IsEntry, IsFound, IsInHeadedRow, IsInRow, IsOpenColumn, IsWhole};
 
 use ft_base::List;
 use ft_core::{Cond, Grid, Term};
@@ -111,26 +111,6 @@ fn in_headed_grid_row<L: Look>(
     }
 }
 
-/// The same in a row of a vector table, which must be for a variable.
-fn in_row_for<L: Look>(
-    variable: usize,
-    target: u32,
-    columns: &[Cond],
-    terms: &[List<Term>],
-    row: usize,
-    look: &L,
-) -> Option<i64>
-    requires columns { AreSafeConds (L.view look.now) columns.now }
-    requires terms { AreSafeRows (L.view look.now) terms.now }
-    ensures { IsInRowFor (L.view look.now) (target == variable) columns.now (slice_index_or terms.now row []) result }
-{
-    if target as usize == variable {
-        in_row_of(columns, terms, row, look)
-    } else {
-        None
-    }
-}
-
 /// The value of the term of the first cell of a normal table that holds.
 fn in_normal<L: Look>(
     columns: &[Cond],
@@ -166,32 +146,11 @@ fn in_inverted<L: Look>(terms: &[Term], rows: &[Cond], grid: &[List<Cond>], look
     None
 }
 
-/// The value of the term of the first cell of a vector table that is for a variable and holds.
-fn in_vector<L: Look>(
-    columns: &[Cond],
-    targets: &[u32],
-    terms: &[List<Term>],
-    variable: usize,
-    look: &L,
-) -> Option<i64>
-    requires columns { AreSafeConds (L.view look.now) columns.now }
-    requires terms { AreSafeRows (L.view look.now) terms.now }
-    ensures { IsFound (L.view look.now) (cells_for variable (Vector columns.now targets.now terms.now)) result }
-{
-    for (at, target) in targets.iter().enumerate() {
-        if let Some(value) = in_row_for(variable, *target, columns, terms, at, look) {
-            return Some(value);
-        }
-    }
-    None
-}
-
-/// The value of the term of the first cell of a table that is for a variable and holds, by rows and then by columns. The table
-/// defines the variable.
-pub(crate) fn value_in<L: Look>(grid: &Grid, variable: usize, look: &L) -> Option<i64>
+/// The value of the term of the first cell of a normal or an inverted table that holds, by rows and then by columns.
+pub(crate) fn value_in<L: Look>(grid: &Grid, look: &L) -> Option<i64>
     requires safe { IsSafeGrid (L.view look.now) grid.now }
-    requires defines { IsTrue (defines grid.now variable) }
-    ensures { IsFound (L.view look.now) (cells_for variable grid.now) result }
+    requires whole { IsWhole grid.now }
+    ensures { (x : ℕ) → IsTrue (defines grid.now x) → IsFound (L.view look.now) (cells_for x grid.now) result }
 {
     match grid {
         Grid::Normal {
@@ -206,17 +165,7 @@ pub(crate) fn value_in<L: Look>(grid: &Grid, variable: usize, look: &L) -> Optio
             rows,
             grid,
         } => in_inverted(terms.as_slice(), rows.as_slice(), grid.as_slice(), look),
-        Grid::Vector {
-            columns,
-            targets,
-            terms,
-        } => in_vector(
-            columns.as_slice(),
-            targets.as_slice(),
-            terms.as_slice(),
-            variable,
-            look,
-        ),
+        Grid::Vector { .. } => unreachable!(),
     }
 }
 

@@ -1,7 +1,6 @@
 ghost use Rattle.std.specs.Prelude.{◌≡◌, ◌≤◌, ℕ, length, slice_set, Some, IfOk};
 ghost use Rattle.ft_scan.specs.Homes.{AreHomes, Notes, NotesRows};
 
-use crate::mapping::is_section;
 use ft_base::{List, NoMemory};
 use ft_core::{Grid, Section, Table};
 use std::alloc::Global;
@@ -57,7 +56,7 @@ pub(crate) fn homes(
 {
     let mut homes = List::from_vec(Vec::from_elem(alloc, None, variables)?);
     'tables: for (at, table) in tables.iter().enumerate() {
-        if is_section(table.section, section) {
+        if table.section.is(section) {
             note_table(&mut homes, at as u32, &table.grid);
         }
     }

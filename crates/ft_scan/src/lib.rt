@@ -1,10 +1,11 @@
-//! IN, OUT and NAT at one scan, and the evaluation of tables that they need.
+//! A side of a set scan by scan, and IN, OUT and NAT at one scan.
 #![tactic(auto)]
 
 mod allowing;
 mod cells;
 mod frame;
 mod homes;
+mod law;
 mod mapping;
 mod opening;
 mod places;
@@ -16,6 +17,3 @@ mod stepping;
 pub use allowing::allowed_step;
 pub use mapping::{input_map, output_map};
 pub use scanner::Scanner;
-
-#[cfg(test)]
-mod tests;

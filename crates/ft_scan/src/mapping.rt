@@ -1,46 +1,37 @@
 ghost use Rattle.std.specs.Prelude.{◌≡◌, ◌==◌, ◌∷◌, [], ℕ, IsTrue, length, slice_get, slice_set, Some, if◌then◌else◌};
 ghost use Rattle.std.specs.List.{list_any};
 ghost use Rattle.ft_core.specs.declared.tables.Section.TheVariants.{Out};
-ghost use Rattle.ft_core.specs.Grids.{defines, is_section, is_for};
-ghost use Rattle.ft_core.specs.Kinds.{monitored, inputs, outputs, controlled, count_of, place_of, defined_kinds, is_of};
+ghost use Rattle.ft_core.specs.Grids.{defines, is_for};
+ghost use Rattle.ft_core.specs.Kinds.{monitored, inputs, outputs, controlled, count_of, place_of, defined_kinds, makes_image, is_of};
 ghost use Rattle.ft_mean.specs.Fits.{InputMap, Maps};
 ghost use Rattle.ft_mean.specs.Proper.{AllProper};
 ghost use Rattle.ft_mean.specs.Reading.{IsListOf};
-ghost use Rattle.ft_scan.specs.Mapping.{IsOfOneKind, CanMap, IsTableOf, HasTargets, IsFilled};
+ghost use Rattle.ft_scan.specs.Found.{IsWhole};
+ghost use Rattle.ft_scan.specs.Mapping.{CanMap, IsTableOf, HasTargets, IsFilled};
 ghost use Rattle.ft_scan.specs.Rows.{AreValues};
 
 use crate::cells::{entry_value, open_column, value_in};
+use crate::law::laws;
 use crate::rows::Rows;
-use ft_core::{Grid, Section, Table, Tables, VarKind};
+use ft_core::{Grid, Section, Table, Tables, VarKind, image_place};
 use ft_mean::Look;
-
-pub(crate) fn is_section(left: Section, right: Section) -> bool
-    ensures { result ≡ is_section left right }
-{
-    match (left, right) {
-        (Section::In, Section::In) => true,
-        (Section::Req, Section::Req) => true,
-        (Section::Sof, Section::Sof) => true,
-        (Section::Out, Section::Out) => true,
-        _ => false,
-    }
-}
 
 /// Puts the value of a variable at its place of a row, if the section defines it.
 fn put_value(tables: &Tables, section: Section, variable: usize, value: i64, image: &mut [i64])
-    requires kind { IsOfOneKind section }
+    requires image { IsTrue (makes_image section) }
     requires room { length image.old ≡ count_of (defined_kinds section) tables.now.vars }
     ensures { image.new ≡ if is_of tables.now.vars (defined_kinds section) variable then slice_set image.old (place_of (defined_kinds section) tables.now.vars variable) value else image.old }
 {
+    laws();
     let Some(var) = tables.vars.as_slice().get(variable) else {
         return;
     };
-    if section.defines(var.kind) {
-        image[var.place as usize] = value;
+    if section.defines(variable, var) {
+        image[image_place(tables, section, variable)] = value;
     }
 }
 
-/// Puts the value of the one variable of a table into a row.
+/// Puts the value of the one variable of a normal or an inverted table into a row.
 fn put_cell<L: Look>(
     tables: &Tables,
     section: Section,
@@ -51,11 +42,13 @@ fn put_cell<L: Look>(
 )
     requires can { CanMap tables.now section (L.view look.now) }
     requires table { IsTableOf tables.now section table.now }
+    requires whole { IsWhole table.now.grid }
     requires target { IsTrue (defines table.now.grid target) }
     requires room { length image.old ≡ count_of (defined_kinds section) tables.now.vars }
     ensures { IsFilled tables.now section (L.view look.now) (λ x. target == x) image.old image.new }
 {
-    let Some(value) = value_in(&table.grid, target, look) else {
+    laws();
+    let Some(value) = value_in(&table.grid, look) else {
         return;
     };
     put_value(tables, section, target, value, image);
@@ -76,6 +69,7 @@ fn put_rows<L: Look>(
     requires room { length image.old ≡ count_of (defined_kinds section) tables.now.vars }
     ensures { IsFilled tables.now section (L.view look.now) (λ x. list_any (λ target. target == x) targets.now) image.old image.new }
 {
+    laws();
     let Some(column) = open_column(&table.grid, look) else {
         return;
     };
@@ -92,7 +86,7 @@ fn put_table<L: Look>(tables: &Tables, section: Section, table: &Table, look: &L
     requires room { length image.old ≡ count_of (defined_kinds section) tables.now.vars }
     ensures { IsFilled tables.now section (L.view look.now) (λ x. is_for section x table.now) image.old image.new }
 {
-    if !is_section(table.section, section) {
+    if !table.section.is(section) {
         return;
     }
     match &table.grid {
@@ -116,6 +110,7 @@ fn map_row<L: Look>(tables: &Tables, section: Section, look: &L, image: &mut [i6
     ensures width { length image.new ≡ length image.old }
     ensures values { AreValues tables.now section (L.view look.now) image.new }
 {
+    laws();
     for table in tables.tables.as_slice() {
         put_table(tables, section, table, look, image);
     }
@@ -129,6 +124,7 @@ pub fn input_map(tables: &Tables, monitored_row: &[i64], inputs_row: &mut [i64])
     requires room { length inputs_row.old ≡ count_of inputs tables.now.vars }
     ensures { InputMap tables.now (monitored_row.now ∷ []) (inputs_row.new ∷ []) }
 {
+    laws();
     let rows = Rows {
         tables,
         kind: VarKind::Mon,
@@ -147,6 +143,7 @@ pub fn output_map(tables: &Tables, outputs_row: &[i64], controlled_row: &mut [i6
     requires room { length controlled_row.old ≡ count_of controlled tables.now.vars }
     ensures { Maps tables.now Out outputs (outputs_row.now ∷ []) (controlled_row.new ∷ []) }
 {
+    laws();
     let rows = Rows {
         tables,
         kind: VarKind::Output,

@@ -1,36 +1,20 @@
 ghost use Rattle.std.specs.Prelude.{◌≡◌, length, IfOk};
-ghost use Rattle.ft_core.specs.Kinds.{given_kinds, side_kinds};
+ghost use Rattle.ft_mean.specs.Part.{kinds_of};
 ghost use Rattle.ft_scan.specs.Put.{ArePut, ArePlacesIn, AreOnce, AreTold};
 ghost use Rattle.ft_scan.specs.Stands.{ArePlaces};
 
 use ft_base::{List, NoMemory};
-use ft_core::{Side, Tables};
+use ft_core::Tables;
+use ft_mean::Part;
 use std::alloc::Global;
 
-/// The places in the set of the variables that a side is given, in order of declaration.
-pub(crate) fn given_places(
-    alloc: Global,
-    tables: &Tables,
-    side: Side,
-) -> Result<List<u32>, NoMemory>
-    ensures { IfOk result (ArePlaces tables.now (given_kinds side)) }
+/// The places in the set of the variables of a part of one side, in order of declaration.
+pub(crate) fn part_places(alloc: Global, tables: &Tables, part: Part) -> Result<List<u32>, NoMemory>
+    ensures { IfOk result (ArePlaces tables.now (kinds_of part)) }
 {
     let mut places = List::new(alloc);
     for (place, var) in tables.vars.as_slice().iter().enumerate() {
-        if side.is_given(var.kind) {
-            places.push(place as u32)?;
-        }
-    }
-    Ok(places)
-}
-
-/// The places in the set of all variables of a side, in order of declaration.
-pub(crate) fn own_places(alloc: Global, tables: &Tables, side: Side) -> Result<List<u32>, NoMemory>
-    ensures { IfOk result (ArePlaces tables.now (side_kinds side)) }
-{
-    let mut places = List::new(alloc);
-    for (place, var) in tables.vars.as_slice().iter().enumerate() {
-        if side.has(var.kind) {
+        if part.has(place, var) {
             places.push(place as u32)?;
         }
     }

@@ -8,6 +8,7 @@ ghost use Rattle.ft_scan.specs.Planning.{Adds, AddsColumn, AddsEntry, AddsHome, 
 ghost use Rattle.ft_scan.specs.declared.homes.Home.TheVariants.{Row};
 
 use crate::homes::{Home, homes};
+use crate::law::laws;
 use ft_base::{List, NoMemory};
 use ft_core::{Memory, Side, Tables};
 use std::alloc::Global;
@@ -41,7 +42,7 @@ fn is_defined(tables: &Tables, side: Side, variable: u32) -> bool
     ensures { result ≡ is_of tables.now.vars (defined_kinds (section_of side)) variable }
 {
     match tables.vars.as_slice().get(variable as usize) {
-        Some(var) => side.section().defines(var.kind),
+        Some(var) => side.section().defines(variable as usize, var),
         None => false,
     }
 }
@@ -62,11 +63,7 @@ fn home_of(tables: &Tables, side: Side, homes: &List<Option<Home>>, variable: u3
 fn is_side(left: Side, right: Side) -> bool
     ensures { result ≡ is_side left right }
 {
-    match (left, right) {
-        (Side::Req, Side::Req) => true,
-        (Side::Sof, Side::Sof) => true,
-        _ => false,
-    }
+    left == right
 }
 
 /// Whether a memory is of a side.
@@ -200,6 +197,7 @@ pub(crate) fn plan(
     requires { IsScanOrder (length tables.now.vars) tables.now.memories tables.now.tables order.now }
     ensures { IfOk result (IsPlan tables.now side) }
 {
+    laws();
     let homes = homes(
         alloc,
         tables.tables.as_slice(),

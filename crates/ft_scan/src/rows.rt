@@ -1,24 +1,20 @@
 ghost use Rattle.std.specs.Prelude.{◌≡◌, ◌∷◌, []};
 ghost use Rattle.ft_core.specs.Kinds.{of_kind};
-ghost use Rattle.ft_mean.specs.Reading.{init_of, reading_of};
+ghost use Rattle.ft_mean.specs.Reading.{reading_of};
 ghost use Rattle.ft_scan.specs.Rows.{row_view};
 
-use ft_core::{Tables, VarKind};
+use ft_core::{Tables, VarKind, kind_place};
 use ft_mean::Look;
-
-/// Whether a kind is this one.
-fn is_kind(kind: VarKind, other: VarKind) -> bool
-    ensures { result ≡ of_kind kind other }
-{
-    other == kind
-}
 
 /// What a row of the variables of a kind tells of a variable: one of another kind is at its `init`.
 fn told(tables: &Tables, kind: VarKind, row: &[i64], variable: u32) -> i64
     ensures { result ≡ reading_of tables.now (of_kind kind) (row.now ∷ []) 0 variable }
 {
     match tables.vars.as_slice().get(variable as usize) {
-        Some(var) if is_kind(kind, var.kind) => row.get(var.place as usize).copied().unwrap_or(0),
+        Some(var) if var.kind == kind => {
+            let place = kind_place(tables, kind, variable as usize);
+            row.get(place).copied().unwrap_or(0)
+        }
         Some(var) => var.init,
         None => 0,
     }
@@ -44,7 +40,7 @@ impl<'a> Look for Rows<'a> {
 
     fn before_of(&self, variable: u32) -> i64 {
         if self.begins {
-            init_of(self.tables, variable)
+            self.tables.init_of(variable as usize)
         } else {
             told(self.tables, self.kind, self.earlier, variable)
         }
@@ -56,15 +52,5 @@ impl<'a> Look for Rows<'a> {
 
     fn memory_of(&self, _memory: u32) -> bool {
         false
-    }
-}
-
-/// The value of a variable before scan 0.
-fn init_of(tables: &Tables, variable: u32) -> i64
-    ensures { result ≡ init_of tables.now variable }
-{
-    match tables.vars.as_slice().get(variable as usize) {
-        Some(var) => var.init,
-        None => 0,
     }
 }

@@ -1,31 +1,53 @@
 ghost use Rattle.std.specs.Prelude.{◌≡◌, ◌++◌, [], ◌∷◌, length, IfOk};
 ghost use Rattle.ft_core.specs.Kinds.{count_of, given_kinds, side_kinds};
+ghost use Rattle.ft_mean.specs.Fits.{Fits};
 ghost use Rattle.ft_mean.specs.Proper.{AllProper};
-ghost use Rattle.ft_mean.specs.Reading.{IsListOf, Scans};
+ghost use Rattle.ft_mean.specs.Reading.{IsListOf};
 ghost use Rattle.ft_scan.specs.Passing.{passed};
-ghost use Rattle.ft_scan.specs.Stands.{Stands};
 
 use crate::frame::Frame;
+use crate::law::laws;
 use crate::opening::first_frame;
-use crate::places::{given_places, own_places, put_values, tell_values};
+use crate::places::{part_places, put_values, tell_values};
 use crate::plan::{Step, plan};
 use crate::stepping::run_steps;
 use ft_base::{List, NoMemory};
 use ft_core::{Side, Tables, scan_order};
+use ft_mean::Part;
+use ft_memo::Told;
 use std::alloc::Global;
+use std::marker::Model;
 use std::mem;
 
-/// One side of a set, run scan by scan.
+/// One side of a set, run scan by scan. Contracts see the set, the side, the given rows so far and the rows that it told.
 #[derive(Drop)]
-pub struct Scanner {
-    /// The side that it runs, from `open` on.
-    pub side: Side,
+pub struct Scanner<'t> {
+    tables: &'t Tables,
+    side: Side,
     /// The steps of each scan.
     steps: List<Step>,
     /// The places in the set of the variables that are given, and of all variables of the side, in order of declaration.
     given: List<u32>,
     own: List<u32>,
     frame: Frame,
+    /// The values of each scan, by their places in the set.
+    past: Told<List<i64>>,
+}
+
+impl<'t> Model for Scanner<'t> {
+    ghost use Rattle.ft_scan.specs.Scanning.{Scanning};
+    ghost use Rattle.std.specs.Coded.{codes};
+    ghost use Rattle.ft_core.specs.contracts.tables.Tables as checked_set;
+
+    ghost Value = { Scanning };
+
+    ghost coded = { Prim.hlevel (codes, checked_set.the_row.coded) };
+
+    ghost use Rattle.ft_scan.specs.Stands.{scanning, IsRunning};
+
+    ghost view = { scanning };
+
+    ghost invariant = { IsRunning };
 }
 
 /// The values of a scan that is over become those one scan before.
@@ -35,35 +57,56 @@ fn end_scan(frame: &mut Frame)
     mem::swap(&mut frame.now, &mut frame.past);
 }
 
-impl Scanner {
+impl<'t> Scanner<'t> {
     /// A scanner of one side that was given no scan yet. All memory is taken here.
-    pub fn open(alloc: Global, tables: &Tables, side: Side) -> Result<Scanner, NoMemory>
+    pub fn open(alloc: Global, tables: &'t Tables, side: Side) -> Result<Scanner<'t>, NoMemory>
+        ensures set { IfOk result (λ scanner. scanner.set ≡ tables.now) }
         ensures side { IfOk result (λ scanner. scanner.side ≡ side) }
-        ensures stands { IfOk result (λ scanner. Stands tables.now scanner [] []) }
+        ensures given { IfOk result (λ scanner. scanner.given ≡ []) }
+        ensures rows { IfOk result (λ scanner. scanner.rows ≡ []) }
     {
         let order = scan_order(alloc, tables)?;
         Ok(Scanner {
+            tables,
             side,
             steps: plan(alloc, tables, side, order.as_slice())?,
-            given: given_places(alloc, tables, side)?,
-            own: own_places(alloc, tables, side)?,
+            given: part_places(alloc, tables, Part::Given(side))?,
+            own: part_places(alloc, tables, Part::Whole(side))?,
             frame: first_frame(alloc, tables)?,
+            past: Told::new(),
         })
     }
 
-    /// Goes on by one scan: from the given values, in order of declaration, the values of all variables of the side, in order of
-    /// declaration. The set is that of `open`. It takes no memory.
-    pub fn step(&mut self, tables: &Tables, given: &[i64], values: &mut [i64])
-        requires proper { AllProper tables.now }
-        requires stands { (before : Scans) × (rows : Scans) × Stands tables.now self.old before rows }
-        requires given { IsListOf tables.now (given_kinds self.old.side) (given.now ∷ []) }
-        requires room { length values.old ≡ count_of (side_kinds self.old.side) tables.now.vars }
-        ensures side { self.new.side ≡ self.old.side }
-        ensures stands { (before rows : Scans) → Stands tables.now self.old before rows → Stands tables.now self.new (before ++ given.now ∷ []) (rows ++ values.new ∷ []) }
+    /// The side that it runs. What it told fits what it was given.
+    pub fn side(&self) -> Side
+        ensures side { result ≡ self.now.side }
+        ensures fits { Fits self.now.set self.now.side self.now.given self.now.rows }
     {
+        self.side
+    }
+
+    /// Goes on by one scan: from the given values, in order of declaration, the values of all variables of the side, in order of
+    /// declaration. It takes no memory.
+    pub fn step(&mut self, given: &[i64], values: &mut [i64])
+        requires proper { AllProper self.old.set }
+        requires given { IsListOf self.old.set (given_kinds self.old.side) (given.now ∷ []) }
+        requires room { length values.old ≡ count_of (side_kinds self.old.side) self.old.set.vars }
+        ensures set { self.new.set ≡ self.old.set }
+        ensures side { self.new.side ≡ self.old.side }
+        ensures given { self.new.given ≡ self.old.given ++ given.now ∷ [] }
+        ensures rows { self.new.rows ≡ self.old.rows ++ values.new ∷ [] }
+        ensures fits { Fits self.new.set self.new.side self.new.given self.new.rows }
+    {
+        laws();
         put_values(self.given.as_slice(), given, &mut self.frame.now);
-        run_steps(tables, self.side, self.steps.as_slice(), &mut self.frame);
+        run_steps(
+            self.tables,
+            self.side,
+            self.steps.as_slice(),
+            &mut self.frame,
+        );
         tell_values(self.own.as_slice(), self.frame.now.as_slice(), values);
         end_scan(&mut self.frame);
+        self.past = self.past.with(&self.frame.past);
     }
 }

@@ -1,11 +1,11 @@
 //! The steps of one scan, each over what is known of it so far.
-ghost use Rattle.std.specs.Prelude.{◌≡◌, ◌<◌, ℕ, ℤ, IsTrue, length, slice_set};
+ghost use Rattle.std.specs.Prelude.{◌≡◌, ◌<◌, ℕ, IsTrue, length, slice_set};
 ghost use Rattle.ft_core.specs.declared.tables.Side.{Side};
+ghost use Rattle.ft_core.specs.Kinds.{section_of};
 ghost use Rattle.ft_mean.specs.Cells.{defined};
 ghost use Rattle.ft_mean.specs.Proper.{AllProper};
 ghost use Rattle.ft_mean.specs.Reading.{Reading};
 ghost use Rattle.ft_mean.specs.Safe.{KeepsSizes, IsSafeMemory};
-ghost use Rattle.ft_scan.specs.Found.{IsTableFor};
 ghost use Rattle.ft_scan.specs.Frame.{view_of, IsFrameOf, CanTake, Leaves, HasColumn, FindsColumn, HasCell, FindsCell, HasEntry, FindsEntry, GoesOn};
 ghost use Rattle.ft_scan.specs.Plan.{IsPlan};
 ghost use Rattle.ft_scan.specs.Stepping.{sample_of, CanHear, Hears};
@@ -13,9 +13,10 @@ ghost use Rattle.ft_scan.specs.Told.{IsScan, IsTold};
 
 use crate::cells::{entry_value, open_column, value_in};
 use crate::frame::{Frame, Running};
+use crate::law::laws;
 use crate::plan::Step;
 use ft_base::List;
-use ft_core::{Memory, Section, Side, Tables};
+use ft_core::{Memory, Side, Tables};
 use ft_mean::{Look, truth_of, value_of};
 
 impl Look for Frame {
@@ -41,15 +42,15 @@ impl Look for Frame {
     }
 }
 
-/// The value of a variable by its table, named by its place, at a scan where some cell for the variable holds.
-fn value_by(tables: &Tables, section: Section, place: usize, variable: usize, frame: &Frame) -> i64
+/// The value of a variable by its table, which is normal or inverted, at a scan where some cell of it holds.
+fn value_by(tables: &Tables, table: usize, frame: &Frame) -> i64
     requires keeps { KeepsSizes tables.now.vars tables.now.memories (view_of frame.now) }
-    requires table { IsTableFor tables.now.tables section variable place }
-    requires some { (z : ℤ) × IsTrue (defined tables.now section (view_of frame.now) variable z) }
-    ensures { IsTrue (defined tables.now section (view_of frame.entry.now) variable result) }
+    requires has { (s : Side) × (x : ℕ) × HasCell tables.now s x table frame.now }
+    ensures { (s : Side) (x : ℕ) → HasCell tables.now s x table frame.entry.now → IsTrue (defined tables.now (section_of s) (view_of frame.entry.now) x result) }
 {
-    let table = tables.tables.get(place);
-    match value_in(&table.grid, variable, frame) {
+    laws();
+    let whole = tables.tables.get(table);
+    match value_in(&whole.grid, frame) {
         Some(value) => value,
         None => unreachable!(),
     }
@@ -69,12 +70,12 @@ fn find_column(tables: &Tables, table: usize, frame: &mut Frame)
 }
 
 /// Finds the value of a variable by its table.
-fn find_cell(tables: &Tables, side: Side, variable: usize, table: usize, frame: &mut Frame)
+fn find_cell(tables: &Tables, variable: usize, table: usize, frame: &mut Frame)
     requires frame { IsFrameOf tables.now frame.old }
-    requires can { HasCell tables.now side variable table frame.old }
-    ensures { FindsCell tables.now side variable frame.old frame.new }
+    requires can { (s : Side) × HasCell tables.now s variable table frame.old }
+    ensures { (s : Side) → HasCell tables.now s variable table frame.old → FindsCell tables.now s variable frame.old frame.new }
 {
-    let value = value_by(tables, side.section(), table, variable, frame);
+    let value = value_by(tables, table, frame);
     frame.now.set(variable, value);
 }
 
@@ -149,7 +150,7 @@ fn run_step(tables: &Tables, side: Side, step: Step, frame: &mut Frame)
     match step {
         Step::Column { table } => find_column(tables, table as usize, frame),
         Step::Cell { variable, table } => {
-            find_cell(tables, side, variable as usize, table as usize, frame)
+            find_cell(tables, variable as usize, table as usize, frame)
         }
         Step::Entry {
             variable,
@@ -167,6 +168,7 @@ pub(crate) fn run_steps(tables: &Tables, side: Side, steps: &[Step], frame: &mut
     requires told { (a : Reading) × (n : ℕ) × IsScan tables.now side a n × IsTold tables.now side steps.now a n 0 frame.old }
     ensures { (a : Reading) (n : ℕ) → IsScan tables.now side a n → IsTold tables.now side steps.now a n 0 frame.old → IsTold tables.now side steps.now a n (length steps.now) frame.new }
 {
+    laws();
     for step in steps {
         run_step(tables, side, *step, frame);
     }

@@ -7,8 +7,8 @@ use Rattle.ft_scan.proofs.allowing.may_begin.Goals as goal
 
 pub all_hold-requires : goal.all_hold-requires
 all_hold-requires c = subst (AreSafeConds (row_view c.args.tables.now monitored c.args.now.now [] true)) (sym c.as_slice.ensures)
-    (safe_always c.args.tables.now monitored c.args.now.now [] true c.requires (λ e. absurd (true≢false e)))
+    ((safe_always c.laws.ensures) c.args.tables.now monitored c.args.now.now [] true c.requires (λ e. absurd (true≢false e)))
 
 pub all_hold-requires-then-all_hold : goal.all_hold-requires-then-all_hold
 all_hold-requires-then-all_hold c = subst (AreSafeConds (row_view c.args.tables.now monitored c.args.now.now [] true)) (sym c.as_slice-then-all_hold.ensures)
-    (safe_first c.args.tables.now monitored c.args.now.now [] true c.requires (λ e. absurd (true≢false e)))
+    ((safe_first c.laws.ensures) c.args.tables.now monitored c.args.now.now [] true c.requires (λ e. absurd (true≢false e)))

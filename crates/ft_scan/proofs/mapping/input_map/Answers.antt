@@ -1,6 +1,5 @@
 use Rattle.std.proofs.Common.{◌∙◌, refl, [], true, true≢false}
 use Rattle.ft_core.specs.declared.tables.Section.TheVariants.{In}
-use Rattle.ft_core.specs.declared.tables.VarKind.TheVariants.{Input}
 use Rattle.ft_core.specs.Kinds.{monitored}
 use Rattle.ft_scan.proofs.RowLemmas.{row_keeps}
 use Rattle.ft_scan.proofs.MapLemmas.{has_values, image_maps}
@@ -8,11 +7,11 @@ use Rattle.ft_scan.proofs.mapping.input_map.Goals as goal
 
 pub map_row-requires-clause-can : goal.map_row-requires-clause-can
 map_row-requires-clause-can c = record {
-  one_kind = (Input, refl);
-  keeps = row_keeps c.args.tables.now monitored c.args.monitored_row.now [] true c.requires.row (λ e. absurd (true≢false e));
-  some = has_values c.args.tables.now c.requires.proper In monitored (λ r may. may) c.args.monitored_row.now c.requires.row;
+  image = refl;
+  keeps = (row_keeps c.laws.ensures) c.args.tables.now monitored c.args.monitored_row.now [] true c.requires.row (λ e. absurd (true≢false e));
+  some = (has_values c.laws.ensures) c.args.tables.now c.requires.proper In monitored (λ r may. may) c.args.monitored_row.now c.requires.row;
 }
 
 pub returns : goal.returns
-returns c = image_maps c.args.tables.now c.requires.proper In monitored (λ r may. may) c.args.monitored_row.now c.requires.row
+returns c = (image_maps c.laws.ensures) c.args.tables.now c.requires.proper In monitored (λ r may. may) c.args.monitored_row.now c.requires.row
     c.map_row.new.image (c.map_row.ensures.width ∙ c.requires.room) c.map_row.ensures.values

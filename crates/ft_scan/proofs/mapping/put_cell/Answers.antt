@@ -9,13 +9,13 @@ pub value_in-requires-clause-safe : goal.value_in-requires-clause-safe
 value_in-requires-clause-safe g c = grid_safe c.args.tables.now c.requires.table.0 c.args.table.now c.requires.table.1 (g.L.Look.view c.args.look.now) c.requires.can.keeps
 
 pub returns-in_default : goal.returns-in_default
-returns-in_default g c = finds_none c.args.tables.now c.args.section (g.L.Look.view c.args.look.now) c.requires.can c.args.table.now c.requires.table
-    c.args.target c.requires.target c.in_default.ensures c.args.image.now
+returns-in_default g c = (finds_none c.laws.ensures) c.args.tables.now c.args.section (g.L.Look.view c.args.look.now) c.requires.can c.args.table.now c.requires.table
+    c.args.target c.requires.target (c.in_default.ensures c.args.target c.requires.target) c.args.image.now
 
 pub returns : goal.returns
 returns g c =
     let fits : FitsSigned w64 c.in-Some.value = search rules in
     let put = simp to_z-of_z at c.put_value.ensures in
-    one_filled c.args.tables.now c.args.section (g.L.Look.view c.args.look.now) c.args.target c.in-Some.value c.args.image.now c.put_value.new.image c.requires.room
-    (λ v is. finds c.args.tables.now c.args.section (g.L.Look.view c.args.look.now) c.requires.can c.args.table.now c.requires.table c.args.target c.requires.target
-    c.in-Some.value c.in-Some.ensures) put
+    (one_filled c.laws.ensures) c.args.tables.now c.args.section (g.L.Look.view c.args.look.now) c.args.target c.in-Some.value c.args.image.now c.put_value.new.image c.requires.room
+    (λ v is. (finds c.laws.ensures) c.args.tables.now c.args.section (g.L.Look.view c.args.look.now) c.requires.can c.args.table.now c.requires.table c.args.target c.requires.target
+    c.in-Some.value (c.in-Some.ensures c.args.target c.requires.target)) put

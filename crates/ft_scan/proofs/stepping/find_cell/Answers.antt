@@ -9,6 +9,6 @@ value_by-value-requires-clause-keeps c = frame_keeps c.args.tables.now c.args.fr
 
 pub set-requires : goal.set-requires
 set-requires c =
-    let at = of_kinds c.args.tables.now.vars (defined_kinds (section_of c.args.side)) c.args.variable c.requires.can.of_side in
+    let at = of_kinds c.args.tables.now.vars (defined_kinds (section_of c.requires.can.0)) c.args.variable c.requires.can.1.of_side in
     let below = slice_get_within c.args.tables.now.vars c.args.variable at.0 at.1 in
     omega (arith, below, c.requires.frame.now)

@@ -1,18 +1,22 @@
 use Rattle.std.proofs.Common.{rules, FitsSigned, w64}
 use Rattle.std.proofs.lemmas.Int.{to_z-of_z}
 use Rattle.ft_scan.specs.Frame.{view_of}
-use Rattle.ft_scan.proofs.TableLemmas.{for_it, grid_safe, found_defined, found_none}
+use Rattle.ft_scan.proofs.FrameLemmas.{cell_whole, cell_missed, cell_found}
+use Rattle.ft_scan.proofs.TableLemmas.{grid_safe}
 use Rattle.ft_scan.proofs.stepping.value_by.Goals as goal
 
 pub value_in-requires-clause-safe : goal.value_in-requires-clause-safe
-value_in-requires-clause-safe c = grid_safe c.args.tables.now c.args.place c.get-table.result.now c.get-table.ensures (view_of c.args.frame.now) c.requires.keeps
+value_in-requires-clause-safe c = grid_safe c.args.tables.now c.args.table c.get-whole.result.now c.get-whole.ensures (view_of c.args.frame.now) c.requires.keeps
+
+pub value_in-requires-clause-whole : goal.value_in-requires-clause-whole
+value_in-requires-clause-whole c = (cell_whole c.laws.ensures) c.args.tables.now c.requires.has.0 c.args.table c.get-whole.result.now c.get-whole.ensures c.args.frame.now
+    c.requires.has.1 c.requires.has.2
 
 pub unreachable-requires : goal.unreachable-requires
-unreachable-requires c = found_none c.args.tables.now c.args.section c.args.variable c.args.place c.get-table.result.now c.get-table.ensures
-    (for_it c.args.tables.now.tables c.args.section c.args.variable c.args.place c.requires.table c.get-table.result.now c.get-table.ensures) (view_of c.args.frame.now) c.requires.some.0 c.in-None.ensures c.requires.some.1
+unreachable-requires c = (cell_missed c.laws.ensures) c.args.tables.now c.requires.has.0 c.args.table c.get-whole.result.now c.get-whole.ensures c.args.frame.now
+    c.requires.has.1 c.requires.has.2 c.in-None.ensures
 
 pub returns : goal.returns
-returns c =
+returns c = λ s x has.
     let fits : FitsSigned w64 c.in-Some.value = search rules in
-    simp to_z-of_z (found_defined c.args.tables.now c.args.section c.args.variable c.args.place c.get-table.result.now c.get-table.ensures
-    (for_it c.args.tables.now.tables c.args.section c.args.variable c.args.place c.requires.table c.get-table.result.now c.get-table.ensures) (view_of c.args.frame.now) c.in-Some.value c.in-Some.ensures)
+    simp to_z-of_z ((cell_found c.laws.ensures) c.args.tables.now s c.args.table c.get-whole.result.now c.get-whole.ensures c.args.frame.now x has c.in-Some.value c.in-Some.ensures)

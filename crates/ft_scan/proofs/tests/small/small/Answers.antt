@@ -1,9 +1,0 @@
-use Rattle.std.proofs.Common.{refl}
-use Rattle.ft_mean.proofs.OneColumnLemmas.{sound_as}
-use Rattle.ft_scan.proofs.SmallSet.{sound}
-use Rattle.ft_scan.proofs.tests.small.small.Goals as goal
-
-pub invariant_of-result : goal.invariant_of-result
-invariant_of-result c = record {
-  sound = sound_as refl c.in_ok-vars.ensures c.new-2.ensures c.in_ok-tables.ensures c.new-3.ensures c.new-4.ensures c.new-5.ensures sound;
-}

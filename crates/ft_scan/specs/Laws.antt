@@ -1,0 +1,32 @@
+-- What the crates below say of the definitions, as far as the scanner's proofs need it.
+use Rattle.ft_mean.specs.EvaluationLaws.{SameValue, SameTruth, SameTruths}
+use Rattle.ft_mean.specs.LookLaws.{MemoriesRemember, SidesReadNoAge, SideLooksSame, LooksAreLocal}
+use Rattle.ft_mean.specs.PastLaws.{SameHeld, SameHyst}
+use Rattle.ft_mean.specs.RowLaws.{PlacesAreInside, PlacesAreTaken, SameRows, ReadAtPlace, ReadInRange, ReadInFront, GivenOrDefined}
+use Rattle.ft_mean.specs.TableLaws.{HasTable, CellsAreOfTable, OwnReads, SameDefined, HasOneValue, SectionsAreTold}
+use Rattle.ft_mean.specs.TraceLaws.{FitsLonger}
+
+pub record Laws : Type 0 where
+  pub same_value : SameValue
+  pub same_truth : SameTruth
+  pub same_truths : SameTruths
+  pub remember : MemoriesRemember
+  pub ageless : SidesReadNoAge
+  pub same_side : SideLooksSame
+  pub local : LooksAreLocal
+  pub same_held : SameHeld
+  pub same_hyst : SameHyst
+  pub inside : PlacesAreInside
+  pub taken : PlacesAreTaken
+  pub same_rows : SameRows
+  pub at_place : ReadAtPlace
+  pub in_range : ReadInRange
+  pub in_front : ReadInFront
+  pub given_or_defined : GivenOrDefined
+  pub has_table : HasTable
+  pub cells_are : CellsAreOfTable
+  pub own_reads : OwnReads
+  pub same_defined : SameDefined
+  pub one_value : HasOneValue
+  pub sections : SectionsAreTold
+  pub longer : FitsLonger
