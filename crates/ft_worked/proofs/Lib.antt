@@ -1,0 +1,13 @@
+pub mod MadeLemmas
+pub mod MapTests
+pub mod MixerLemmas
+pub mod MixerProper
+pub mod MixerRows
+pub mod MixerSound
+pub mod Passes
+pub mod ProperTests
+pub mod ReadingRules
+pub mod RelayLemmas
+pub mod SoundTests
+pub mod TraceTests
+pub mod TripLemmas

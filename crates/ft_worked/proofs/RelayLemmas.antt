@@ -1,0 +1,274 @@
+-- With one timer on both sides the relay refines its requirement, and with a longer one in the design it differs one scan late.
+use Rattle.std.proofs.Common.{◌≡◌, ◌∙◌, sym, ap, subst, refl, ℕ, zero, suc, ◌<◌, ◌-◌, ℤ, pos, ◌*ℤ◌, Bool, true, false, cond, not, ◌&&◌}
+use Rattle.std.proofs.Common.{◌||◌, List, [], ◌∷◌, length, arith, ⊎_elim, true≢false}
+use Rattle.std.specs.List.{list_any}
+use Rattle.std.specs.Ordering.{int_eq}
+use Rattle.std.proofs.lemmas.Int.{ints}
+use Rattle.std.proofs.lemmas.Bool.{or_cases, or_left}
+use Rattle.std.proofs.lemmas.Bool.Decides.{Decides-int_eq}
+use Rattle.std.proofs.lemmas.Option.{none-some, same_Some}
+use Rattle.ft_base.specs.Interval.{IsWithin}
+use Rattle.ft_core.specs.declared.tables.Tables.{Tables}
+use Rattle.ft_core.specs.declared.tables.Var.{Var}
+use Rattle.ft_core.specs.declared.tables.Side.TheVariants as side
+use Rattle.ft_core.specs.declared.tables.Section.TheVariants as section
+use Rattle.ft_core.specs.Kinds.{monitored, controlled}
+use Rattle.ft_mean.specs.Allowed.{Allowed, nat_at}
+use Rattle.ft_mean.specs.Cells.{defined}
+use Rattle.ft_mean.specs.Fits.{Fits, InputMap, OutputMap, Only, side_reading}
+use Rattle.ft_mean.specs.Laws.{FitsOneTrace, HasOneImage}
+use Rattle.ft_mean.specs.LookLaws.{MemoriesRemember}
+use Rattle.ft_mean.specs.PastLaws.{SameHeld}
+use Rattle.ft_mean.specs.Whole.{RunsAreWhole, ReadsAsWhole, joint}
+use Rattle.ft_mean.specs.Memory.{at_scan, look, memory_at}
+use Rattle.ft_mean.specs.Past.{held}
+use Rattle.ft_mean.specs.Proper.{AllProper}
+use Rattle.ft_mean.specs.Reading.{Reading, Scans, IsVar, reading_of, begun}
+use Rattle.ft_mean.specs.Refines.{Refines, Runs, FirstDiffers}
+use Rattle.ft_mean.specs.Value.{View, truth, value}
+use Rattle.ft_mean.specs.Equations.{evaluation, value-Num}
+use Rattle.ft_core.specs.declared.term.Term.TheVariants.{Num}
+use Rattle.ft_core.specs.Grids.{Cell}
+use Rattle.ft_worked.specs.Relay.{relay, vars, tables, is_on, on_thrice}
+use Rattle.ft_worked.specs.Worked.{RelayRefines, LateRelayDiffers}
+use Rattle.ft_worked.proofs.TraceTests.{list_is}
+use Rattle.ft_worked.proofs.MadeLemmas.{Rest, set_of, for_each}
+use Rattle.ft_worked.proofs.ProperTests.{one_of, InRanges, AllOneCell, proper_by_cells}
+
+bit_0 : IsWithin (pos 0, pos 1) (pos 0)
+bit_0 = (omega (arith, ints), omega (arith, ints))
+
+bit_1 : IsWithin (pos 0, pos 1) (pos 1)
+bit_1 = (omega (arith, ints), omega (arith, ints))
+
+either : (b : Bool) → one_of ((b && true) ∷ (not b && true) ∷ []) ≡ true
+either true = refl
+either false = refl
+
+module _ (V : View) (local : InRanges vars V) where
+  each : AllOneCell vars V tables
+  each = (
+    (record { one = simp evaluation; fits = ((λ e. simp evaluation (local.now 0 _ refl)), tt) }, tt),
+    (
+      (
+        record {
+          one = simp evaluation (either (V.memory 0));
+          fits = ((λ e. simp evaluation bit_1), ((λ e. simp evaluation bit_0), tt));
+        },
+        tt,
+      ),
+      (
+        (
+          record {
+            one = simp evaluation (either (V.memory 1));
+            fits = ((λ e. simp evaluation bit_1), ((λ e. simp evaluation bit_0), tt));
+          },
+          tt,
+        ),
+        ((record { one = simp evaluation; fits = ((λ e. simp evaluation (local.now 3 _ refl)), tt) }, tt), tt),
+      ),
+    ),
+  )
+
+-- the value that a table with one cell gives
+only_one : (z y : ℤ) → (int_eq z y || false) ≡ true → z ≡ y
+only_one z y h = ⊎_elim (λ here. (Decides-int_eq z y).0 here) (λ none. absurd (true≢false (sym none))) (or_cases (int_eq z y) false h)
+
+abbrev gives : View → ℤ → List Cell → Bool
+gives V z cells = list_any (λ (cell : Cell). int_eq z (value V cell.term)) cells
+
+-- the value of one of two cells, by whether the first holds
+picked : (V : View) (z : ℤ) (m : Bool) (one zero_cell : Cell) → one.term ≡ Num (pos 1) → zero_cell.term ≡ Num (pos 0)
+    → gives V z (cond (m && true) (one ∷ cond (not m && true) (zero_cell ∷ []) []) (cond (not m && true) (zero_cell ∷ []) [])) ≡ true
+    → z ≡ cond m (pos 1) (pos 0)
+picked V z true one none e f h = only_one z (pos 1) (subst (λ y. (int_eq z y || false) ≡ true) (ap (value V) e ∙ value-Num V (pos 1)) h)
+picked V z false one none e f h = only_one z (pos 0) (subst (λ y. (int_eq z y || false) ≡ true) (ap (value V) f ∙ value-Num V (pos 0)) h)
+
+-- on for so long up to a scan
+abbrev on_for : (hold : ℤ) → ℕ → Bool
+on_for hold t = held 0 (λ j. pos (t - j) *ℤ pos 50) hold (λ j. true) t
+
+module _ (hold : ℤ) (rest : Rest (relay hold))
+    (one_trace : FitsOneTrace) (one_image : HasOneImage) (wholes : RunsAreWhole) (remember : MemoriesRemember) (same_held : SameHeld) where
+  abbrev S : Tables
+  S = set_of (relay hold) rest
+
+  proper : AllProper S
+  proper = proper_by_cells S each
+
+  module _ (h : Scans) (allowed : Allowed S h) where
+    pub required : (r : Scans) × Only (Fits S side.Req h) r
+    required = one_trace S proper side.Req h allowed.monitored_list.values
+
+    pub input : (i : Scans) × Only (InputMap S h) i
+    input = (one_image S proper).0 h allowed.monitored_list.values
+
+    pub design : (s : Scans) × Only (Fits S side.Sof input.0) s
+    design = one_trace S proper side.Sof input.0 input.1.is.values
+
+    pub output : (c : Scans) × Only (OutputMap S design.0) c
+    output = (one_image S proper).1 design.0 design.1.is.values
+
+    pub runs : Runs S h required.0 input.0 design.0 output.0
+    runs = record { allowed = allowed; required = required.1; inputs = input.1; design = design.1; outputs = output.1 }
+
+    abbrev pub ρ : Reading
+    ρ = joint S required.0 design.0
+
+    pub whole : ReadsAsWhole S h required.0 design.0 ρ
+    whole = wholes S h required.0 input.0 design.0 allowed required.1.is input.1.is design.1.is
+
+    -- both timers are told the same
+    same_input : (t : ℕ) → t < length h → ρ t 2 ≡ ρ t 0
+    same_input t below = only_one (ρ t 2) (ρ t 0) (simp evaluation at (whole.whole.inputs t below 2 _ (refl, refl)))
+
+    relay_is : (t : ℕ) → t < length h → ρ t 1 ≡ cond (memory_at S ρ 0 t) (pos 1) (pos 0)
+    relay_is t below = picked (look S ρ t) (ρ t 1) (memory_at S ρ 0 t) _ _ refl refl
+        (simp evaluation at (whole.whole.required t below 1 _ (refl, refl)))
+
+    output_is : (t : ℕ) → t < length h → ρ t 3 ≡ cond (memory_at S ρ 1 t) (pos 1) (pos 0)
+    output_is t below = picked (look S ρ t) (ρ t 3) (memory_at S ρ 1 t) _ _ refl refl
+        (simp evaluation at (whole.whole.designed t below 3 _ (refl, refl)))
+
+    -- what OUT makes of the design's output is the output
+    put_out : (t : ℕ) → t < length h → reading_of S controlled output.0 t 1 ≡ ρ t 3
+    put_out t below = sym (whole.as_put_out proper output.0 output.1.is t 1 _ (ρ t 3) below (refl, refl) given)
+      where
+        given : defined S section.Out (look S ρ t) 1 (ρ t 3) ≡ true
+        given = simp evaluation (or_left (int_eq (ρ t 3) (ρ t 3)) false ((Decides-int_eq (ρ t 3) (ρ t 3)).1 refl))
+
+    -- the timers look back at the switch
+    abbrev pub is_on_at : ℕ → Bool
+    is_on_at j = int_eq (ρ j 0) (pos 1)
+
+    begun_none : (t : ℕ) → begun S ρ t ≡ 0
+    begun_none zero = refl
+    begun_none (suc t) = begun_none t
+
+    first_timer : (t : ℕ) → t < length h → memory_at S ρ 0 t ≡ held 0 (λ j. pos (t - j) *ℤ pos 50) (pos 100) is_on_at t
+    first_timer t below = remember S ρ 0 t ∙ ap (λ from. held from (λ j. pos (t - j) *ℤ pos 50) (pos 100)
+        (λ j. truth (at_scan S ρ (memory_at S ρ) j) (is_on 0)) t) (begun_none t)
+        ∙ same_held 0 (λ j. pos (t - j) *ℤ pos 50) (pos 100) _ is_on_at t (λ j low. simp evaluation)
+
+    second_timer : (t : ℕ) → t < length h → memory_at S ρ 1 t ≡ held 0 (λ j. pos (t - j) *ℤ pos 50) hold is_on_at t
+    second_timer t below = remember S ρ 1 t ∙ ap (λ from. held from (λ j. pos (t - j) *ℤ pos 50) hold
+        (λ j. truth (at_scan S ρ (memory_at S ρ) j) (is_on 2)) t) (begun_none t)
+        ∙ same_held 0 (λ j. pos (t - j) *ℤ pos 50) hold _ is_on_at t
+        (λ j low. simp evaluation (ap (λ z. int_eq z (pos 1)) (same_input j (omega (arith, low, below)))))
+
+    pub relay_at : (t : ℕ) → t < length h → side_reading S side.Req required.0 t 1
+        ≡ cond (held 0 (λ j. pos (t - j) *ℤ pos 50) (pos 100) is_on_at t) (pos 1) (pos 0)
+    relay_at t below = sym (whole.as_required t 1 _ below (refl, refl)) ∙ relay_is t below
+        ∙ ap (λ b. cond b (pos 1) (pos 0)) (first_timer t below)
+
+    pub put_out_at : (t : ℕ) → t < length h → reading_of S controlled output.0 t 1
+        ≡ cond (held 0 (λ j. pos (t - j) *ℤ pos 50) hold is_on_at t) (pos 1) (pos 0)
+    put_out_at t below = put_out t below ∙ output_is t below ∙ ap (λ b. cond b (pos 1) (pos 0)) (second_timer t below)
+
+    -- the one controlled variable is the relay
+    pub only_relay : (P : ℕ → Type 0) → P 1 → (x : ℕ) (v : Var) → IsVar S controlled x v → P x
+    only_relay P one zero v is = absurd (true≢false (sym is.1 ∙ sym (ap (λ (u : Var). controlled 0 u) (same_Some _ v is.0))))
+    only_relay P one (suc zero) v is = one
+    only_relay P one (suc (suc zero)) v is = absurd (true≢false (sym is.1 ∙ sym (ap (λ (u : Var). controlled 0 u) (same_Some _ v is.0))))
+    only_relay P one (suc (suc (suc zero))) v is = absurd (true≢false
+        (sym is.1 ∙ sym (ap (λ (u : Var). controlled 0 u) (same_Some _ v is.0))))
+    only_relay P one (suc (suc (suc (suc x)))) v is = absurd (none-some v is.0)
+
+pub refines : FitsOneTrace → HasOneImage → RunsAreWhole → MemoriesRemember → SameHeld → RelayRefines
+refines one_trace one_image wholes remember same_held S is = for_each (relay (pos 100)) S is Refines (λ rest h allowed. (
+  _,
+  _,
+  _,
+  _,
+  runs (pos 100) rest one_trace one_image wholes remember same_held h allowed,
+  λ t below x v of. only_relay (pos 100) rest one_trace one_image wholes remember same_held h allowed
+      (λ x. side_reading (set_of (relay (pos 100)) rest) side.Req
+      (required (pos 100) rest one_trace one_image wholes remember same_held h allowed).0 t x
+      ≡ reading_of (set_of (relay (pos 100)) rest) controlled
+      (output (pos 100) rest one_trace one_image wholes remember same_held h allowed).0 t x)
+      (relay_at (pos 100) rest one_trace one_image wholes remember same_held h allowed t below
+      ∙ sym (put_out_at (pos 100) rest one_trace one_image wholes remember same_held h allowed t below)) x v of,
+))
+
+-- the switch is on at each scan, so a timer is at its hold once that is over
+module _ (rest : Rest (relay (pos 150)))
+    (one_trace : FitsOneTrace) (one_image : HasOneImage) (wholes : RunsAreWhole) (remember : MemoriesRemember) (same_held : SameHeld) where
+  abbrev late : Tables
+  late = set_of (relay (pos 150)) rest
+
+  allowed : Allowed late on_thrice
+  allowed = record {
+    monitored_list = record { nonempty = λ e. nonempty e; values = list_is late monitored on_thrice refl };
+    clauses = λ t below. clear t;
+  }
+    where
+      nonempty : on_thrice ≡ [] → ⊥
+      nonempty e = cc
+
+      clear : (t : ℕ) → nat_at late (reading_of late monitored on_thrice) t ≡ true
+      clear zero = refl
+      clear (suc t) = refl
+
+  -- the switch is on at each scan of the list
+  on_at : (t : ℕ) → t < 3 → is_on_at (pos 150) rest one_trace one_image wholes remember same_held on_thrice allowed t ≡ true
+  on_at t below = ap (λ z. int_eq z (pos 1)) (given t below ∙ is_one t below)
+    where
+      given : (t : ℕ) → t < 3 → ρ (pos 150) rest one_trace one_image wholes remember same_held on_thrice allowed t 0
+          ≡ reading_of late monitored on_thrice t 0
+      given t below = (whole (pos 150) rest one_trace one_image wholes remember same_held on_thrice allowed).as_required t 0 _ below
+          (refl, refl)
+          ∙ (required (pos 150) rest one_trace one_image wholes remember same_held on_thrice allowed).1.is.same_given t 0 _
+          (subst (λ n. t < n)
+          (sym (required (pos 150) rest one_trace one_image wholes remember same_held on_thrice allowed).1.is.lengths) below) (refl, refl)
+
+      is_one : (t : ℕ) → t < 3 → reading_of late monitored on_thrice t 0 ≡ pos 1
+      is_one zero below = refl
+      is_one (suc zero) below = refl
+      is_one (suc (suc zero)) below = refl
+      is_one (suc (suc (suc t))) below = absurd (omega (arith, below))
+
+  relay_on : (t : ℕ) (below : t < 3) → side_reading late side.Req
+      (required (pos 150) rest one_trace one_image wholes remember same_held on_thrice allowed).0 t 1
+      ≡ cond (on_for (pos 100) t) (pos 1) (pos 0)
+  relay_on t below = relay_at (pos 150) rest one_trace one_image wholes remember same_held on_thrice allowed t below
+      ∙ ap (λ b. cond b (pos 1) (pos 0)) (same_held 0 (λ j. pos (t - j) *ℤ pos 50) (pos 100) _ (λ j. true) t
+      (λ j low. on_at j (omega (arith, low, below))))
+
+  output_on : (t : ℕ) (below : t < 3) → reading_of late controlled
+      (output (pos 150) rest one_trace one_image wholes remember same_held on_thrice allowed).0 t 1
+      ≡ cond (on_for (pos 150) t) (pos 1) (pos 0)
+  output_on t below = put_out_at (pos 150) rest one_trace one_image wholes remember same_held on_thrice allowed t below
+      ∙ ap (λ b. cond b (pos 1) (pos 0)) (same_held 0 (λ j. pos (t - j) *ℤ pos 50) (pos 150) _ (λ j. true) t
+      (λ j low. on_at j (omega (arith, low, below))))
+
+  pub differs : FirstDiffers late on_thrice 2
+  differs = record {
+    r = (required (pos 150) rest one_trace one_image wholes remember same_held on_thrice allowed).0;
+    i = (input (pos 150) rest one_trace one_image wholes remember same_held on_thrice allowed).0;
+    s = (design (pos 150) rest one_trace one_image wholes remember same_held on_thrice allowed).0;
+    c = (output (pos 150) rest one_trace one_image wholes remember same_held on_thrice allowed).0;
+    runs = runs (pos 150) rest one_trace one_image wholes remember same_held on_thrice allowed;
+    in_list = omega arith;
+    same_before = λ t below x v of. only_relay (pos 150) rest one_trace one_image wholes remember same_held on_thrice allowed
+        (λ x. side_reading late side.Req (required (pos 150) rest one_trace one_image wholes remember same_held on_thrice allowed).0 t x
+        ≡ reading_of late controlled (output (pos 150) rest one_trace one_image wholes remember same_held on_thrice allowed).0 t x)
+        (same t below) x v of;
+    variable = 1;
+    declared = _;
+    is_controlled = (refl, refl);
+    differs = λ e. apart (sym (relay_on 2 (omega arith)) ∙ e ∙ output_on 2 (omega arith));
+  }
+    where
+      same : (t : ℕ) → t < 2
+          → side_reading late side.Req (required (pos 150) rest one_trace one_image wholes remember same_held on_thrice allowed).0 t 1
+          ≡ reading_of late controlled (output (pos 150) rest one_trace one_image wholes remember same_held on_thrice allowed).0 t 1
+      same zero below = relay_on 0 (omega arith) ∙ sym (output_on 0 (omega arith))
+      same (suc zero) below = relay_on 1 (omega arith) ∙ sym (output_on 1 (omega arith))
+      same (suc (suc t)) below = absurd (omega (arith, below))
+
+      apart : pos 1 ≡ pos 0 → ⊥
+      apart e = cc
+
+pub late_differs : FitsOneTrace → HasOneImage → RunsAreWhole → MemoriesRemember → SameHeld → LateRelayDiffers
+late_differs one_trace one_image wholes remember same_held S is =
+    for_each (relay (pos 150)) S is (λ T. FirstDiffers T on_thrice 2) (λ rest. differs rest one_trace one_image wholes remember same_held)

@@ -1,0 +1,6 @@
+pub mod Made
+pub mod Mixer
+pub mod Relay
+pub mod Running
+pub mod Trip
+pub mod Worked

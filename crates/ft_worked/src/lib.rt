@@ -1,0 +1,14 @@
+//! Worked sets: theorems over the definitions alone, and tests of what the crates below make of these sets.
+#![tactic(auto)]
+
+mod law;
+#[cfg(test)]
+mod making;
+#[cfg(test)]
+mod mixer;
+#[cfg(test)]
+mod tests;
+
+pub use law::{
+    late_relay_differs, mixer_is_proper, mixer_is_worked, relay_refines, trip_is_worked,
+};
