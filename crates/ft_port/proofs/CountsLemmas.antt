@@ -66,7 +66,7 @@ some-place es name known none =
     held es name known.0 known.1 known.2 (λ j d less. fails_before_first (is_of name) es j d (omega (arith, far, less)))
 
 pub are-unread : (names : List (List ℕ)) → AreUnread names (map unread names)
-are-unread [] = record { names = refl; reach = λ name. refl; faults = λ name. refl }
+are-unread [] = record { names = refl; reach = λ name. refl; faults = λ name. refl; reads = λ name. refl }
 are-unread (n ∷ names) =
     let rest = are-unread names in
     record {
@@ -78,6 +78,10 @@ are-unread (n ∷ names) =
       faults = λ name. elim (cases_Bool (bytes_eq n name)) [
         | inl is ↦ rw is refl
         | inr is ↦ rw is (rest.faults name)
+      ];
+      reads = λ name. elim (cases_Bool (bytes_eq n name)) [
+        | inl is ↦ rw is refl
+        | inr is ↦ rw is (rest.reads name)
       ];
     }
 

@@ -1,5 +1,5 @@
 -- Why a call may answer that the outside failed.
-use Rattle.std.specs.Prelude.{ℕ, ◌+◌, ◌-◌, ◌^◌, ◌≤◌, min, Result, OnErr}
+use Rattle.std.specs.Prelude.{◌≡◌, ℕ, ◌+◌, ◌-◌, ◌^◌, ◌≤◌, min, Result, OnOk, OnErr}
 
 -- a count of 64 bits after one more; at its last value it stands still
 abbrev pub one_more : ℕ → ℕ
@@ -9,7 +9,7 @@ one_more count = min (count + 1) (2 ^ 64 - 1)
 abbrev pub Rose : (before now : ℕ) → Type 0
 Rose before now = one_more before ≤ now
 
--- faults never fall, and a failure comes only where they rose
+-- a failure is counted once, and a success not at all
 pub record HasCause {T E : Type 0} (before now : ℕ) (result : Result T E) : Type 0 where
-  pub later : before ≤ now
-  pub failed : OnErr result (Rose before now)
+  pub kept : OnOk result (now ≡ before)
+  pub risen : OnErr result (now ≡ one_more before)

@@ -1,21 +1,30 @@
 -- What a fetch answers, and why.
 use Rattle.std.specs.Prelude.{◌≡◌, ℕ, ◌<◌, ◌≤◌, List, length, Option, Some}
-use Rattle.ft_port.specs.Causes.{Rose}
+use Rattle.ft_port.specs.Causes.{one_more}
+use Rattle.ft_port.specs.Reads.{Read, given, HasEnded, HasFailed}
 use Rattle.ft_port.specs.declared.fetching.FetchError.{FetchError}
 use Rattle.ft_port.specs.declared.fetching.FetchError.TheVariants.{Failed, TooLong, NoMemory}
 
--- the text is the whole told file, and is no longer than the limit
-pub record IsFile (told : Option (List ℕ)) (limit : ℕ) (text : List ℕ) : Type 0 where
+-- the text is what the reads gave up to the file's end, and is no longer than the limit; a told file holds nothing else
+pub record IsFile (told : Option (List ℕ)) (reads : List Read) (limit : ℕ) (text : List ℕ) : Type 0 where
+  pub given : text ≡ given reads
+  pub ended : HasEnded reads
   pub short : length text ≤ limit
   pub whole : (file : List ℕ) → told ≡ Some file → text ≡ file
 
--- reads came beyond the limit, and so does the told file
-pub record IsTooLong (told : Option (List ℕ)) (limit reach : ℕ) : Type 0 where
+-- reads came beyond the limit and gave more bytes in a row, and the told file is so long
+pub record IsTooLong (told : Option (List ℕ)) (reads : List Read) (limit reach : ℕ) : Type 0 where
   pub far : limit < reach
+  pub given : limit < length (given reads)
   pub longer : (file : List ℕ) → told ≡ Some file → limit < length file
 
--- why a fetch gave no text; want of memory is free
-abbrev pub HasFetchCause : Option (List ℕ) → (limit faults_before faults_now reach : ℕ) → FetchError → Type 0
-HasFetchCause told limit faults_before faults_now reach Failed = Rose faults_before faults_now
-HasFetchCause told limit faults_before faults_now reach TooLong = IsTooLong told limit reach
-HasFetchCause told limit faults_before faults_now reach NoMemory = Unit
+-- one read failed, and none came after it
+pub record HasReadFault (reads : List Read) (faults_before faults_now : ℕ) : Type 0 where
+  pub once : faults_now ≡ one_more faults_before
+  pub last : HasFailed reads
+
+-- why a fetch gave no text; want of memory is free, but isn't told of a read that failed
+abbrev pub HasFetchCause : Option (List ℕ) → List Read → (limit faults_before faults_now reach : ℕ) → FetchError → Type 0
+HasFetchCause told reads limit faults_before faults_now reach Failed = HasReadFault reads faults_before faults_now
+HasFetchCause told reads limit faults_before faults_now reach TooLong = IsTooLong told reads limit reach × (faults_now ≡ faults_before)
+HasFetchCause told reads limit faults_before faults_now reach NoMemory = faults_now ≡ faults_before

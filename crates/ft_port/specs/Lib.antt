@@ -3,5 +3,7 @@ pub mod Counts
 pub mod Fetching
 pub mod MemShelf
 pub mod MemSink
+pub mod OutSink
+pub mod Reads
 pub mod Shelf
 pub mod Sink

@@ -1,7 +1,8 @@
-ghost use Rattle.std.specs.Prelude.{◌≡◌, OnOk, OnErr};
+ghost use Rattle.std.specs.Prelude.{◌≡◌, ◌∷◌};
 ghost use Rattle.std.specs.List.{Contains, position};
-ghost use Rattle.ft_port.specs.Causes.{HasCause, one_more};
-ghost use Rattle.ft_port.specs.Counts.{is_of, names_of, reach_by, faults_by};
+ghost use Rattle.ft_port.specs.Causes.{HasCause};
+ghost use Rattle.ft_port.specs.Counts.{is_of, names_of, reach_by, faults_by, reads_by};
+ghost use Rattle.ft_port.specs.Reads.{read_of};
 ghost use Rattle.ft_port.specs.Shelf.{Reaches, OthersStay};
 
 use crate::entry::Entry;
@@ -16,18 +17,23 @@ fn place_of(counts: &[Entry], name: &[u8]) -> Option<usize>
         .position(|entry| entry.name.as_slice() == name)
 }
 
-/// Notes what a read of this name from `place` on gave. The first entry of the name counts.
-pub fn note_read(counts: &mut [Entry], name: &[u8], place: u64, given: Result<usize, Failed>)
+/// Notes what a read of this name from `place` on gave, and how it left the bytes it was to fill. The first entry of the name counts.
+pub fn note_read(
+    counts: &mut [Entry],
+    name: &[u8],
+    place: u64,
+    given: Result<usize, Failed>,
+    into: &[u8],
+)
     requires { Contains (names_of counts.old) name.now }
     ensures names { names_of counts.new ≡ names_of counts.old }
     ensures reach { Reaches (reach_by counts.old name.now) (reach_by counts.new name.now) place given }
     ensures cause { HasCause (faults_by counts.old name.now) (faults_by counts.new name.now) given }
-    ensures kept { OnOk given (faults_by counts.new name.now ≡ faults_by counts.old name.now) }
-    ensures risen { OnErr given (faults_by counts.new name.now ≡ one_more (faults_by counts.old name.now)) }
-    ensures others { OthersStay name.now (reach_by counts.old) (reach_by counts.new) (faults_by counts.old) (faults_by counts.new) }
+    ensures reads { reads_by counts.new name.now ≡ read_of place given into.now ∷ reads_by counts.old name.now }
+    ensures others { OthersStay name.now (reach_by counts.old) (reach_by counts.new) (faults_by counts.old) (faults_by counts.new) (reads_by counts.old) (reads_by counts.new) }
 {
     match place_of(counts, name) {
-        Some(at) => counts[at].note(place, given),
+        Some(at) => counts[at].note(place, given, into),
         None => unreachable!(),
     }
 }

@@ -1,18 +1,21 @@
-ghost use Rattle.std.specs.Prelude.{◌≡◌, IfOk, OnOk, OnErr};
-ghost use Rattle.ft_port.specs.Causes.{HasCause, one_more};
+ghost use Rattle.std.specs.Prelude.{◌≡◌, ◌∷◌, IfOk};
+ghost use Rattle.ft_port.specs.Causes.{HasCause};
 ghost use Rattle.ft_port.specs.Counts.{unread};
+ghost use Rattle.ft_port.specs.Reads.{read_of};
 ghost use Rattle.ft_port.specs.Shelf.{Reaches};
 
+use crate::reads::Reads;
 use crate::shelf::Failed;
 use ft_base::{List, NoMemory, Text};
 use std::alloc::Global;
 
-/// A name, how far the reads of it came, and how many of them failed.
+/// A name, how far the reads of it came, how many of them failed, and, for clauses alone, what they were.
 #[derive(Drop)]
 pub struct Entry {
     pub name: Text,
     pub reach: u64,
     pub faults: u64,
+    pub reads: Reads,
 }
 
 impl Entry {
@@ -24,17 +27,18 @@ impl Entry {
             name: List::copy_of(alloc, name)?,
             reach: 0,
             faults: 0,
+            reads: Reads::none(),
         })
     }
 
     /// Notes what a read from `place` on gave.
-    pub fn note(&mut self, place: u64, given: Result<usize, Failed>)
+    pub fn note(&mut self, place: u64, given: Result<usize, Failed>, into: &[u8])
         ensures name { self.new.name ≡ self.old.name }
         ensures reach { Reaches self.old.reach self.new.reach place given }
         ensures cause { HasCause self.old.faults self.new.faults given }
-        ensures kept { OnOk given (self.new.faults ≡ self.old.faults) }
-        ensures risen { OnErr given (self.new.faults ≡ one_more self.old.faults) }
+        ensures reads { self.new.reads.list ≡ read_of place given into.now ∷ self.old.reads.list }
     {
+        self.reads = self.reads.with(&place, &given, into);
         match given {
             Ok(0) => {}
             Ok(count) => self.reach = self.reach.max(place.saturating_add(count as u64)),

@@ -1,4 +1,4 @@
-ghost use Rattle.std.specs.Prelude.{◌≡◌, ◌<◌, ◌≤◌, List, ℕ, Some, length, vec_len, IfOk, IfErr, IsErr};
+ghost use Rattle.std.specs.Prelude.{◌≡◌, ◌<◌, ◌≤◌, List, ℕ, Some, length, vec_len, IfOk, IfErr, IsErr, OnOk};
 ghost use Rattle.std.specs.List.{Contains};
 ghost use Rattle.ft_port.specs.Fetching.{IsFile, HasFetchCause};
 ghost use Rattle.ft_port.specs.Shelf.{OthersStay};
@@ -30,7 +30,7 @@ fn buffer(alloc: Global, size: usize) -> Result<Vec<u8>, NoMemory>
     Ok(Vec::from_elem(alloc, 0u8, size)?)
 }
 
-/// The whole file of this name, where it has at most `limit` bytes.
+/// The whole file of this name, where it has at most `limit` bytes. After a read that fails there is no other.
 pub fn fetch<S: Shelf>(
     alloc: Global,
     shelf: &mut S,
@@ -38,12 +38,12 @@ pub fn fetch<S: Shelf>(
     limit: u64,
 ) -> Result<Text, FetchError>
     requires { Contains (S.names shelf.old) name.now }
-    ensures file { IfOk result (IsFile (S.told shelf.old name.now) limit) }
-    ensures cause { IfErr result (HasFetchCause (S.told shelf.old name.now) limit (S.faults shelf.old name.now) (S.faults shelf.new name.now) (S.reach shelf.new name.now)) }
+    ensures file { IfOk result (IsFile (S.told shelf.old name.now) (S.reads shelf.new name.now) limit) }
+    ensures cause { IfErr result (HasFetchCause (S.told shelf.old name.now) (S.reads shelf.new name.now) limit (S.faults shelf.old name.now) (S.faults shelf.new name.now) (S.reach shelf.new name.now)) }
     ensures longer { (file : List ℕ) → S.told shelf.old name.now ≡ Some file → limit < length file → IsErr result }
-    ensures faults { S.faults shelf.old name.now ≤ S.faults shelf.new name.now }
+    ensures faults { OnOk result (S.faults shelf.new name.now ≡ S.faults shelf.old name.now) }
     ensures reach { S.reach shelf.old name.now ≤ S.reach shelf.new name.now }
-    ensures others { OthersStay name.now (S.reach shelf.old) (S.reach shelf.new) (S.faults shelf.old) (S.faults shelf.new) }
+    ensures others { OthersStay name.now (S.reach shelf.old) (S.reach shelf.new) (S.faults shelf.old) (S.faults shelf.new) (S.reads shelf.old) (S.reads shelf.new) }
     ensures names { S.names shelf.new ≡ S.names shelf.old }
     ensures told { S.told shelf.new ≡ S.told shelf.old }
 {

@@ -1,5 +1,5 @@
 ghost use Rattle.std.specs.Prelude.{◌≡◌, ◌≤◌, IfOk, map, string_bytes, length, None};
-ghost use Rattle.ft_port.specs.Counts.{AreUnread, names_of, reach_by, faults_by};
+ghost use Rattle.ft_port.specs.Counts.{AreUnread, names_of, reach_by, faults_by, reads_by};
 
 use crate::counts::note_read;
 use crate::entry::Entry;
@@ -11,8 +11,8 @@ use std::marker::Model;
 use std::rt::Files;
 use std::{fs, io};
 
-/// The files of the system under the names that it was made for. Contracts see the counts of each name, and not
-/// what the files hold. A file that isn't there is a fault, and so is a directory.
+/// The files of the system under the names that it was made for. Contracts see the counts and the reads of each
+/// name, and not what the files hold. A file that isn't there is a fault, and so is a directory.
 #[derive(Drop)]
 pub struct FileShelf<R: Files + Drop> {
     rt: R,
@@ -59,12 +59,14 @@ impl<R: Files + Drop> Shelf for FileShelf<R> {
 
     ghost faults = { faults_by };
 
+    ghost reads = { reads_by };
+
     fn read(&mut self, name: &str, place: u64, into: &mut [u8]) -> Result<usize, Failed> {
         let result = match read_at(&self.rt, name, place, into) {
             Ok(count) => Ok(count),
             Err(_) => Err(Failed),
         };
-        note_read(&mut self.counts, name.as_bytes(), place, result);
+        note_read(&mut self.counts, name.as_bytes(), place, result, into);
         result
     }
 }

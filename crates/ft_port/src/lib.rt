@@ -9,10 +9,9 @@ mod file_shelf;
 mod mem_shelf;
 mod mem_sink;
 mod out_sink;
+mod reads;
 mod shelf;
 mod sink;
-#[cfg(test)]
-mod tests;
 
 pub use fetching::{FetchError, fetch};
 pub use file_shelf::FileShelf;

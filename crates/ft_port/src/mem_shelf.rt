@@ -1,10 +1,11 @@
-ghost use Rattle.std.specs.Prelude.{◌≡◌, ◌↔◌, IsTrue, ◌⊎◌, ◌-◌, min, List, ℕ, true, Some, None, Ok, map, length, IfOk, IsErr, OnOk, OnErr};
+ghost use Rattle.std.specs.Prelude.{◌≡◌, ◌↔◌, IsTrue, ◌⊎◌, ◌-◌, min, List, ℕ, true, Some, None, Ok, map, length, IfOk, IsErr, ◌∷◌};
 ghost use Rattle.std.specs.List.{Contains, find};
 ghost use Rattle.std.specs.Str.{bytes_eq};
 ghost use Rattle.std.specs.Option.{option_map};
 ghost use Rattle.ft_port.specs.Causes.{HasCause, one_more};
-ghost use Rattle.ft_port.specs.Counts.{AreUnread, names_of, reach_by, faults_by};
+ghost use Rattle.ft_port.specs.Counts.{AreUnread, names_of, reach_by, faults_by, reads_by};
 ghost use Rattle.ft_port.specs.Shelf.{ReadsFrom, Reaches, OthersStay};
+ghost use Rattle.ft_port.specs.Reads.{read_of};
 ghost use Rattle.ft_port.specs.MemShelf.{content_in, MustFail};
 ghost use Rattle.ft_port.specs.declared.shelf.Failed.{Failed};
 
@@ -141,15 +142,16 @@ impl Shelf for MemShelf {
 
     ghost faults = { λ s. faults_by s.counts };
 
+    ghost reads = { λ s. reads_by s.counts };
+
     fn read(&mut self, name: &str, place: u64, into: &mut [u8]) -> Result<usize, Failed>
         requires { Contains (names_of self.old.counts) name.now }
         ensures bytes { ReadsFrom (content_in self.old.files name.now) place result into.new }
         ensures most { (file : List ℕ) → content_in self.old.files name.now ≡ Some file → IfOk result (λ n. n ≡ min (length into.new) (length file - place)) }
         ensures reach { Reaches (reach_by self.old.counts name.now) (reach_by self.new.counts name.now) place result }
         ensures cause { HasCause (faults_by self.old.counts name.now) (faults_by self.new.counts name.now) result }
-        ensures kept { OnOk result (faults_by self.new.counts name.now ≡ faults_by self.old.counts name.now) }
-        ensures risen { OnErr result (faults_by self.new.counts name.now ≡ one_more (faults_by self.old.counts name.now)) }
-        ensures others { OthersStay name.now (reach_by self.old.counts) (reach_by self.new.counts) (faults_by self.old.counts) (faults_by self.new.counts) }
+        ensures reads { reads_by self.new.counts name.now ≡ read_of place result into.new ∷ reads_by self.old.counts name.now }
+        ensures others { OthersStay name.now (reach_by self.old.counts) (reach_by self.new.counts) (faults_by self.old.counts) (faults_by self.new.counts) (reads_by self.old.counts) (reads_by self.new.counts) }
         ensures fails { IsErr result ↔ MustFail self.old name.now }
         ensures calls { self.new.calls ≡ one_more self.old.calls }
         ensures failing { self.new.failing ≡ self.old.failing }
@@ -160,7 +162,7 @@ impl Shelf for MemShelf {
         let content = self.content(name.as_bytes());
         let result = read_part(content, listed, place, into);
         self.calls = self.calls.saturating_add(1);
-        note_read(&mut self.counts, name.as_bytes(), place, result);
+        note_read(&mut self.counts, name.as_bytes(), place, result, into);
         result
     }
 }

@@ -1,4 +1,4 @@
-ghost use Rattle.std.specs.Prelude.{◌≡◌, ◌↔◌, true, false, min, ◌⊎◌, ◌<◌, IsTrue, IsSome, ◌++◌, ◌+◌, ◌-◌, ◌≤◌, ◌==◌, ℕ, List, [], Option, Some, IfOk, IsErr, OnOk, OnErr, length, take, unwrap_or};
+ghost use Rattle.std.specs.Prelude.{◌≡◌, ◌↔◌, true, false, min, ◌⊎◌, ◌<◌, IsTrue, IsSome, ◌++◌, ◌+◌, ◌-◌, ◌≤◌, ◌==◌, ℕ, List, [], Option, Some, IfOk, IsErr, length, take, unwrap_or};
 ghost use Rattle.std.specs.List.{find};
 ghost use Rattle.std.specs.Option.{option_map};
 ghost use Rattle.ft_port.specs.Causes.{HasCause, one_more};
@@ -142,6 +142,8 @@ impl MemSink {
 impl Sink for MemSink {
     ghost taken = { λ s. Some s.taken };
 
+    ghost writes = { λ s. s.calls };
+
     ghost faults = { λ s. s.faults };
 
     fn write(&mut self, bytes: &[u8]) -> Result<(), Failed>
@@ -150,9 +152,7 @@ impl Sink for MemSink {
         ensures part { self.new.taken ≡ self.old.taken ++ take (taken_of self.old (length bytes.now)) bytes.now }
         ensures room { self.new.room + taken_of self.old (length bytes.now) ≡ self.old.room }
         ensures fails { IsErr result ↔ MustFail self.old (length bytes.now) }
-        ensures kept { OnOk result (self.new.faults ≡ self.old.faults) }
-        ensures risen { OnErr result (self.new.faults ≡ one_more self.old.faults) }
-        ensures calls { self.new.calls ≡ one_more self.old.calls }
+        ensures writes { self.new.calls ≡ one_more self.old.calls }
         ensures failing { self.new.failing ≡ self.old.failing }
     {
         if self.take(bytes) {

@@ -1,4 +1,4 @@
-use Rattle.std.proofs.Common.{◌≡◌, ◌∙◌, sym, ap, Some, slice_get, slice_index_or, option_map, unwrap_or}
+use Rattle.std.proofs.Common.{◌≡◌, ◌∙◌, sym, ap, [], Some, slice_get, slice_index_or, option_map, unwrap_or}
 use Rattle.std.specs.List.{position}
 use Rattle.std.proofs.lemmas.List.Quantifiers.{position-Some}
 use Rattle.std.proofs.lemmas.Option.{slice_get-get_or}
@@ -30,16 +30,13 @@ pub returns-clause-cause : goal.returns-clause-cause
 returns-clause-cause c =
     rw (seen _ _ _ (old c) c.note.new.self (place c) (here c) c.note.ensures.name, after _ _ _ (old c) c.note.new.self (place c) (here c) c.note.ensures.name) c.note.ensures.cause
 
-pub returns-clause-kept : goal.returns-clause-kept
-returns-clause-kept c =
-    rw (seen _ _ _ (old c) c.note.new.self (place c) (here c) c.note.ensures.name, after _ _ _ (old c) c.note.new.self (place c) (here c) c.note.ensures.name) c.note.ensures.kept
-
-pub returns-clause-risen : goal.returns-clause-risen
-returns-clause-risen c =
-    rw (seen _ _ _ (old c) c.note.new.self (place c) (here c) c.note.ensures.name, after _ _ _ (old c) c.note.new.self (place c) (here c) c.note.ensures.name) c.note.ensures.risen
+pub returns-clause-reads : goal.returns-clause-reads
+returns-clause-reads c =
+    rw (seen _ _ _ (old c) c.note.new.self (place c) (here c) c.note.ensures.name, after _ _ _ (old c) c.note.new.self (place c) (here c) c.note.ensures.name) c.note.ensures.reads
 
 pub returns-clause-others : goal.returns-clause-others
 returns-clause-others c = record {
   reach = λ other differs. ap (λ e. unwrap_or (option_map (λ entry. entry.reach) e) 0) (others _ _ _ (old c) c.note.new.self (place c) (here c) c.note.ensures.name other differs);
   faults = λ other differs. ap (λ e. unwrap_or (option_map (λ entry. entry.faults) e) 0) (others _ _ _ (old c) c.note.new.self (place c) (here c) c.note.ensures.name other differs);
+  reads = λ other differs. ap (λ e. unwrap_or (option_map (λ entry. entry.reads.list) e) []) (others _ _ _ (old c) c.note.new.self (place c) (here c) c.note.ensures.name other differs);
 }
