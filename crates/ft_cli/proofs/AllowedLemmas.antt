@@ -1,18 +1,18 @@
 -- A list of scans of one monitored value is allowed.
-use Rattle.std.proofs.Common.{◌≡◌, ◌∙◌, sym, ap, subst, refl, ℕ, zero, suc, ◌<◌, ℤ, pos, ◌&&◌, [], ◌∷◌, length, slice_get, slice_index_or, Some, arith, true≢false}
+use Rattle.std.proofs.Common.{◌≡◌, ◌∙◌, sym, ap, subst, refl, ℕ, zero, suc, ◌<◌, ℤ, pos, Bool, true, false, ◌&&◌, [], ◌∷◌, length, slice_get, slice_index_or, Some, None, arith, true≢false}
 use Rattle.std.specs.Prelude.{IsTrue}
 use Rattle.std.specs.List.{list_all}
+use Rattle.std.proofs.lemmas.Bool.{cond-true}
 use Rattle.std.proofs.lemmas.Option.{none-some, same_Some}
 use Rattle.ft_base.specs.Interval.{IsWithin}
 use Rattle.ft_core.specs.declared.tables.Tables.{Tables}
 use Rattle.ft_core.specs.declared.tables.Var.{Var}
 use Rattle.ft_core.specs.declared.tables.VarKind.TheVariants.{Mon, Con, Input, Output}
-use Rattle.ft_core.specs.Kinds.{monitored, count_of, place_of}
+use Rattle.ft_core.specs.Kinds.{monitored, count_of, place_of, is_of}
 use Rattle.ft_mean.specs.Value.{truth}
-use Rattle.ft_mean.specs.Reading.{IsVar, reading_of}
+use Rattle.ft_mean.specs.Reading.{IsVar, init_of, reading_of}
 use Rattle.ft_mean.specs.Memory.{look}
 use Rattle.ft_mean.specs.Allowed.{Allowed, nat_at}
-use Rattle.ft_mean.proofs.Traces.{reading_at}
 use Rattle.ft_cli.specs.Form.{bounds_of}
 use Rattle.ft_cli.specs.FormSet.{IsSetOf, vars_of, var_of}
 use Rattle.ft_cli.specs.Verdict.{steady}
@@ -34,14 +34,18 @@ module _ (f : Form) (S : Tables) (is : IsSetOf f S) (n : ℕ) (value : ℤ) (wit
     where
       at : (y : ℕ) → slice_get (vars_of f.variables) y ≡ Some v → (0 ≡ y) × (var_of Mon f.variables.monitored ≡ v)
       at zero there = (refl, same_Some _ v there)
-      at (suc zero) there = absurd (true≢false (sym (ap (λ (u : Var). monitored u.kind) (same_Some (var_of Con f.variables.controlled) v there) ∙ e.1)))
-      at (suc (suc zero)) there = absurd (true≢false (sym (ap (λ (u : Var). monitored u.kind) (same_Some (var_of Input f.variables.input) v there) ∙ e.1)))
-      at (suc (suc (suc zero))) there = absurd (true≢false (sym (ap (λ (u : Var). monitored u.kind) (same_Some (var_of Output f.variables.output) v there) ∙ e.1)))
+      at (suc zero) there = absurd (true≢false (sym (ap (monitored 0) (same_Some (var_of Con f.variables.controlled) v there) ∙ e.1)))
+      at (suc (suc zero)) there = absurd (true≢false (sym (ap (monitored 0) (same_Some (var_of Input f.variables.input) v there) ∙ e.1)))
+      at (suc (suc (suc zero))) there = absurd (true≢false (sym (ap (monitored 0) (same_Some (var_of Output f.variables.output) v there) ∙ e.1)))
       at (suc (suc (suc (suc y)))) there = absurd (none-some v there)
+
+  -- a variable of these kinds is read at its place
+  reads-at : (x : ℕ) (v : Var) → IsVar S monitored x v → is_of S.vars monitored x ≡ true
+  reads-at x v e = ap (λ o. elim o as (λ z. Bool) [ None ↦ false | Some u ↦ monitored x u ]) e.0 ∙ e.1
 
   pub reads-steady : (t x : ℕ) (v : Var) → t < n → IsVar S monitored x v → reading_of S monitored (steady n value) t x ≡ value
   reads-steady t x v l e =
-      reading_at S monitored (steady n value) t x v e
+      cond-true (is_of S.vars monitored x) _ (init_of S x) (reads-at x v e)
       ∙ ap (λ row. slice_index_or row (place_of monitored S.vars x) (pos 0)) (scan-at n value t l)
       ∙ ap (λ y. slice_index_or (value ∷ []) (place_of monitored S.vars y) (pos 0)) (sym (only-monitored x v e).0)
 

@@ -15,7 +15,7 @@ use Rattle.std.specs.Option.{option_map}
 use Rattle.ft_mean.specs.Value.{View, value, truth, compares}
 use Rattle.ft_mean.specs.Cells.{cell_holds, holding}
 use Rattle.ft_mean.specs.Proper.{HasOneCell}
-use Rattle.ft_mean.proofs.Agree.{truth-Yes, truth-Compare, value-Num, value-Now}
+use Rattle.ft_mean.specs.Equations.{truth-Yes, truth-Compare, value-Num, value-Now}
 use Rattle.ft_cli.specs.FormSet.{table_of, cond_of, term_of}
 use Rattle.ft_cli.specs.Rows.{row_holds, row_value, result_at, is_within, is_result_within, is_proper_at}
 use Rattle.ft_cli.specs.declared.form.Guard.{Guard}
@@ -27,14 +27,14 @@ use Rattle.ft_cli.specs.Form.{bound_value}
 use Rattle.ft_cli.proofs.RangeLemmas.{proper-at}
 
 -- the cell of a row
-abbrev cell_of : (n target read : ℕ) → Row → Cell
+abbrev pub cell_of : (n target read : ℕ) → Row → Cell
 cell_of n target read row = record { row = n; column = 0; target = target; conds = cond_of read row.guard ∷ cond.Yes ∷ []; term = term_of read row.entry }
 
-abbrev cells_from : (n target read : ℕ) → List Row → List Cell
+abbrev pub cells_from : (n target read : ℕ) → List Row → List Cell
 cells_from n target read [] = []
 cells_from n target read (row ∷ rows) = cell_of n target read row ∷ cells_from (n + 1) target read rows
 
-cells-are : (n target read : ℕ) (rows : List Row)
+pub cells-are : (n target read : ℕ) (rows : List Row)
     → flat_map (λ r. row_cells r.0 target (zip (map (λ column. r.1.0 ∷ column ∷ []) (cond.Yes ∷ [])) r.1.1))
     (enumerate_from n (zip (map (λ row. cond_of read row.guard) rows) (map (λ row. term_of read row.entry ∷ []) rows)))
     ≡ cells_from n target read rows

@@ -6,6 +6,8 @@ pub mod SetLemmas
 pub mod RangeLemmas
 pub mod CellRows
 pub mod AllowedLemmas
+pub mod CheckedLemmas
+pub mod NameLemmas
 pub mod VerdictLemmas
 pub mod ReportLemmas
 pub mod JoinLemmas

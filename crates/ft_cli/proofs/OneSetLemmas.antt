@@ -1,8 +1,6 @@
 -- Bytes spell one set.
-use Rattle.std.proofs.Common.{◌≡◌, ◌∙◌, sym, ap, subst, ℕ, List, [], ◌∷◌, inl, inr, ℤ}
+use Rattle.std.proofs.Common.{◌≡◌, ◌∙◌, sym, ap, subst, ℕ, List, ℤ}
 use Rattle.std.specs.Prelude.{Result, Ok, Err, IfOk, IsOkUnless}
-use Rattle.std.specs.Bool.{MatchBool}
-use Rattle.std.proofs.lemmas.Bool.{cases_Bool}
 use Rattle.std.proofs.Props.{props}
 use mathlib.Core.HLevel.{is_prop→PathP}
 use Rattle.ft_core.specs.declared.tables.Tables.{Tables}
@@ -10,10 +8,9 @@ use Rattle.ft_core.specs.declared.tables.Table.{Table}
 use Rattle.ft_core.specs.declared.tables.Var.{Var}
 use Rattle.ft_core.specs.declared.tables.Memory.{Memory}
 use Rattle.ft_core.specs.declared.term.Cond.{Cond}
+use Rattle.ft_core.specs.Checked.{IsChecked, checked_prop}
 use Rattle.ft_core.specs.Sound.{IsSound}
-use Rattle.ft_lex.specs.declared.token.Token.{Token}
-use Rattle.ft_lex.specs.Tokens.{AreTokensFrom, is_last}
-use Rattle.ft_lex.proofs.TokenLemmas.{next-same}
+use Rattle.ft_lex.specs.Tokens.{OneTokens}
 use Rattle.ft_cli.specs.Lexeme.{lexemes_of}
 use Rattle.ft_cli.specs.Form.{Reads, SpellsForm}
 use Rattle.ft_cli.specs.FormSet.{IsSetOf, SpellsOneSet}
@@ -22,34 +19,16 @@ use Rattle.ft_cli.specs.declared.cursor.Refusal.TheVariants.{NoMemory, Other}
 use Rattle.ft_cli.specs.declared.form.Form.{Form}
 use Rattle.ft_cli.proofs.SpellingLemmas.{form-same}
 
--- a text has one list of tokens
-tokens-same : (text : List ℕ) (from : ℕ) (xs ys : List Token) → AreTokensFrom text from xs → AreTokensFrom text from ys → xs ≡ ys
-tokens-same text from [] ys h k = absurd h
-tokens-same text from (t ∷ more) [] h k = absurd k
-tokens-same text from (t ∷ more) (u ∷ others) h k =
-    let same : u ≡ t = next-same text from u t k.0 h.0 in
-    let after = subst (λ (v : Token). MatchBool (is_last v.kind) (others ≡ []) (AreTokensFrom text v.end others)) same k.1 in
-    elim (cases_Bool (is_last t.kind)) [
-      | inl ends ↦
-          let none : more ≡ [] = subst (λ b. MatchBool b (more ≡ []) (AreTokensFrom text t.end more)) ends h.1 in
-          let none_other : others ≡ [] = subst (λ b. MatchBool b (others ≡ []) (AreTokensFrom text t.end others)) ends after in
-          (λ i. sym same i ∷ (none ∙ sym none_other) i)
-      | inr goes ↦
-          let rest : more ≡ others = tokens-same text t.end more others
-          (subst (λ b. MatchBool b (more ≡ []) (AreTokensFrom text t.end more)) goes h.1)
-          (subst (λ b. MatchBool b (others ≡ []) (AreTokensFrom text t.end others)) goes after) in
-          (λ i. sym same i ∷ rest i)
-    ]
-
-pub one-form : (bytes : List ℕ) (f g : Form) → SpellsForm bytes f → SpellsForm bytes g → f ≡ g
-one-form bytes f g s t = form-same f g (sym s.grammar ∙ ap (lexemes_of bytes) (tokens-same bytes 0 s.tokens t.tokens s.are t.are) ∙ t.grammar)
+pub one-form : OneTokens → (bytes : List ℕ) (f g : Form) → SpellsForm bytes f → SpellsForm bytes g → f ≡ g
+one-form one_tokens bytes f g s t =
+    form-same f g (sym s.grammar ∙ ap (lexemes_of bytes) (one_tokens bytes s.tokens t.tokens s.are t.are) ∙ t.grammar)
 
 -- where bytes spell a set, it is the one that is read from them
-pub reads : (bytes : List ℕ) (f : Form) (result : Result Form Refusal) → IfOk result (SpellsForm bytes)
+pub reads : OneTokens → (bytes : List ℕ) (f : Form) (result : Result Form Refusal) → IfOk result (SpellsForm bytes)
     → IsOkUnless result NoMemory → SpellsForm bytes f → Reads result f
-reads bytes f (Ok g) spelled only is = one-form bytes g f spelled is
-reads bytes f (Err Other) spelled only is = cc
-reads bytes f (Err NoMemory) spelled only is = tt
+reads one_tokens bytes f (Ok g) spelled only is = one-form one_tokens bytes g f spelled is
+reads one_tokens bytes f (Err Other) spelled only is = cc
+reads one_tokens bytes f (Err NoMemory) spelled only is = tt
 
 -- what is sound is so in one way
 sound-prop : (period : ℤ) (vars : List Var) (memories : List Memory) (tables : List Table) (first always step : List Cond)
@@ -59,6 +38,10 @@ sound-prop period vars memories tables first always step = hlevel props
 -- a form has one set
 set-same : (f : Form) (S T : Tables) → IsSetOf f S → IsSetOf f T → S ≡ T
 set-same f S T s t =
+    let name : S.name ≡ T.name = s.name ∙ sym t.name in
+    let splits : S.splits ≡ T.splits = s.splits ∙ sym t.splits in
+    let depth : S.depth ≡ T.depth = s.depth ∙ sym t.depth in
+    let blocks : S.blocks ≡ T.blocks = s.blocks ∙ sym t.blocks in
     let period : S.period ≡ T.period = s.period ∙ sym t.period in
     let vars : S.vars ≡ T.vars = s.vars ∙ sym t.vars in
     let memories : S.memories ≡ T.memories = s.memories ∙ sym t.memories in
@@ -67,21 +50,23 @@ set-same f S T s t =
     let always : S.always ≡ T.always = s.always ∙ sym t.always in
     let step : S.step ≡ T.step = s.step ∙ sym t.step in
     λ i. record {
-      name = (s.name ∙ sym t.name) i;
+      name = name i;
       period = period i;
-      splits = (s.splits ∙ sym t.splits) i;
-      depth = (s.depth ∙ sym t.depth) i;
+      splits = splits i;
+      depth = depth i;
       vars = vars i;
       memories = memories i;
       tables = tables i;
       first = first i;
       always = always i;
       step = step i;
-      blocks = (s.blocks ∙ sym t.blocks) i;
+      blocks = blocks i;
       sound = is_prop→PathP (λ j. IsSound (period j) (vars j) (memories j) (tables j) (first j) (always j) (step j))
           (λ j. sound-prop (period j) (vars j) (memories j) (tables j) (first j) (always j) (step j)) S.sound T.sound i;
+      checked = is_prop→PathP (λ j. IsChecked (name j) (splits j) (depth j) (vars j) (memories j) (tables j) (first j) (always j) (step j) (blocks j))
+          (λ j. checked_prop (name j) (splits j) (depth j) (vars j) (memories j) (tables j) (first j) (always j) (step j) (blocks j)) S.checked T.checked i;
     }
 
-pub one_set : SpellsOneSet
-one_set bytes S T s t =
-    set-same t.form S T (subst (λ (f : Form). IsSetOf f S) (one-form bytes s.form t.form s.spelled t.spelled) s.is) t.is
+pub one_set : OneTokens → SpellsOneSet
+one_set one_tokens bytes S T s t =
+    set-same t.form S T (subst (λ (f : Form). IsSetOf f S) (one-form one_tokens bytes s.form t.form s.spelled t.spelled) s.is) t.is

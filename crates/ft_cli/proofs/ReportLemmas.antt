@@ -10,12 +10,12 @@ use Rattle.ft_core.specs.declared.tables.VarKind.{VarKind}
 use Rattle.ft_core.specs.declared.tables.VarKind.TheVariants.{Mon, Con, Input, Output}
 use Rattle.ft_core.specs.declared.tables.Section.{Section}
 use Rattle.ft_core.specs.declared.tables.Section.TheVariants as section
-use Rattle.ft_core.specs.Kinds.{monitored, inputs, outputs}
+use Rattle.ft_core.specs.Kinds.{same_kind}
 use Rattle.ft_core.specs.Reads.{Read, grid_reads}
 use Rattle.ft_mean.specs.Value.{View}
 use Rattle.ft_mean.specs.Proper.{IsLocal, IsProper}
 use Rattle.ft_cli.specs.Form.{AreGoodVariables, IsGoodForm, bounds_of}
-use Rattle.ft_cli.specs.FormSet.{AreShort, IsSetOf, block_of, table_of, tables_of, var_of, vars_of}
+use Rattle.ft_cli.specs.FormSet.{AreShort, HasNames, IsSetOf, block_of, table_of, tables_of, var_of, vars_of}
 use Rattle.ft_cli.specs.Judgement.{HasPoints, IsFirstImproper, IsLarge, IsTitle}
 use Rattle.ft_cli.specs.Report.{section_word}
 use Rattle.ft_cli.specs.Rows.{is_proper_at}
@@ -24,12 +24,13 @@ use Rattle.ft_cli.specs.declared.form.Row.{Row}
 use Rattle.ft_cli.specs.declared.form.Variable.{Variable}
 use Rattle.ft_cli.specs.declared.form.Form.{Form}
 use Rattle.ft_cli.proofs.CellRows.{rows-proper}
+use Rattle.ft_cli.proofs.CheckedLemmas.{checked-of}
 use Rattle.ft_cli.proofs.SetLemmas.{inits-good, sound-of}
 use Rattle.ft_cli.proofs.VerdictLemmas.{declared, is_declared, proper-in, section-at, table_in, there-in}
 
 -- the set of a good form
-pub set-of : (f : Form) → IsGoodForm f → AreShort f.rows → Tables
-set-of f good short = record {
+pub set-of : (f : Form) → IsGoodForm f → AreShort f.rows → HasNames f → Tables
+set-of f good short names = record {
   name = f.name;
   period = pos f.period;
   splits = 1000;
@@ -42,11 +43,12 @@ set-of f good short = record {
   step = [];
   blocks = block_of f.block ∷ [];
   sound = sound-of f good short;
+  checked = checked-of f good names;
 }
 
-pub is-set : (f : Form) (good : IsGoodForm f) (short : AreShort f.rows) → IsSetOf f (set-of f good short)
+pub is-set : (f : Form) (good : IsGoodForm f) (short : AreShort f.rows) (names : HasNames f) → IsSetOf f (set-of f good short names)
 unfolding set-of
-is-set f good short = record {
+is-set f good short names = record {
   name = refl;
   period = refl;
   splits = refl;
@@ -75,7 +77,7 @@ module _ (f : Form) (S : Tables) (is : IsSetOf f S) where
       not-controlled : Some (var_of Con f.variables.controlled) ≡ Some p.variable → ⊥
       not-controlled e =
           let kind : Con ≡ p.variable.kind = ap (λ (w : Var). w.kind) (same_Some (var_of Con f.variables.controlled) p.variable e) in
-          ⊎_elim (λ a. true≢false (sym (ap monitored kind ∙ a.1))) (λ b. ⊎_elim (λ a. true≢false (sym (ap inputs kind ∙ a.1))) (λ a. true≢false (sym (ap outputs kind ∙ a.1))) b) p.kind
+          ⊎_elim (λ a. true≢false (sym (ap (same_kind Mon) kind ∙ a.1))) (λ b. ⊎_elim (λ a. true≢false (sym (ap (same_kind Input) kind ∙ a.1))) (λ a. true≢false (sym (ap (same_kind Output) kind ∙ a.1))) b) p.kind
 
       at : (x : ℕ) → slice_get (vars_of f.variables) x ≡ Some p.variable → ⊥
       at zero e = none (inl (is-large _ e))

@@ -1,6 +1,6 @@
 -- The set of a form is sound: what its tables read, that each variable has its table, and an order.
-use Rattle.std.proofs.Common.{◌≡◌, ◌∙◌, sym, ap, subst, refl, ℕ, zero, suc, ◌<◌, ℤ, pos, Bool, true, false, ◌&&◌, ◌||◌, List, [], ◌∷◌, ◌++◌, length, map, slice_get, Some, arith, ⊎_elim, true≢false}
-use Rattle.std.specs.Prelude.{IsTrue, ◌==◌, nat_le, nat_lt, unsigned_abs, if◌then◌else◌}
+use Rattle.std.proofs.Common.{◌≡◌, ◌∙◌, sym, ap, subst, refl, ℕ, zero, suc, ◌+◌, ◌<◌, ℤ, pos, Bool, true, false, ◌&&◌, ◌||◌, List, [], ◌∷◌, ◌++◌, length, map, slice_get, Some, arith, ⊎_elim, true≢false}
+use Rattle.std.specs.Prelude.{IsTrue, ◌==◌, filter, nat_le, nat_lt, unsigned_abs, if◌then◌else◌}
 use Rattle.std.specs.List.{Contains, flat_map, list_all, list_any}
 use Rattle.std.proofs.lemmas.Int.{ints}
 use Rattle.std.proofs.lemmas.Bool.{and_parts, and_from, or_cases, or_left, or_right}
@@ -23,14 +23,12 @@ use Rattle.ft_core.specs.declared.term.Cond.{Cond}
 use Rattle.ft_core.specs.declared.term.Cond.TheOpen as cl
 use Rattle.ft_core.specs.declared.term.Cond.TheVariants as cond
 use Rattle.ft_core.specs.Kinds.{defined_kinds, of_kind, is_of, place_of}
-use Rattle.ft_core.specs.Grids.{cells_for, is_for, is_section, is_shaped, defines}
+use Rattle.ft_core.specs.Grids.{Cell, cells_for, is_for, is_section, is_shaped, defines}
 use Rattle.ft_core.specs.Reads.{Read, at_now, at_before, of_memory, of_age, term_reads, cond_reads, grid_reads, cell_reads}
 use Rattle.ft_core.specs.Size.{var_size, is_sized_term, is_sized, is_sized_grid}
 use Rattle.ft_core.specs.Sound.{IsSound, may_read, item_reads, is_current}
-use Rattle.ft_core.proofs.SizeLemmas.{small-Num, small-Now, sized-Yes, sized-Compare}
-use Rattle.ft_core.proofs.TermLemmas.{reads-rolled, cond_reads-rolled}
-use Rattle.ft_mean.proofs.CellLemmas.{own_reads}
-use Rattle.ft_mean.proofs.Passes.{passes}
+use Rattle.ft_core.specs.SizeEquations.{small-Num, small-Now, sized-Yes, sized-Compare}
+use Rattle.ft_core.specs.Equations.{reads-rolled, cond_reads-rolled}
 use Rattle.ft_cli.specs.Form.{HasRows, HaveRows, IsGoodForm, IsGoodVariable, AreGoodVariables, bound_value}
 use Rattle.ft_cli.specs.FormSet.{AreShort, HaveShortNumbers, var_of, vars_of, tables_of, table_of, cond_of, term_of, is_short_bound, is_short_entry, is_short_guard}
 use Rattle.ft_cli.specs.declared.form.Bound.{Bound}
@@ -43,6 +41,7 @@ use Rattle.ft_cli.specs.declared.form.Variable.{Variable}
 use Rattle.ft_cli.specs.declared.form.Variables.{Variables}
 use Rattle.ft_cli.specs.declared.form.TableRows.{TableRows}
 use Rattle.ft_cli.specs.declared.form.Form.{Form}
+use Rattle.ft_cli.proofs.CellRows.{cell_of, cells_from, cells-are}
 
 -- the variable read is all that is read
 abbrev pub ReadsOnly : ℕ → List Read → Type 0
@@ -82,12 +81,42 @@ table-reads s target read rows = both-read read
     (mapped-read read (flat_map term_reads) (λ row. term_of read row.entry ∷ []) rows
     (λ row. both-read read (term_reads (term_of read row.entry)) [] (term-read read row.entry) (none-read read)))
 
+-- and so do its cells for a variable
+row-read : (n target read : ℕ) (row : Row) → ReadsOnly read (cell_reads (cell_of n target read row))
+row-read n target read row =
+    both-read read (flat_map cond_reads (cond_of read row.guard ∷ cond.Yes ∷ [])) (term_reads (term_of read row.entry))
+    (both-read read (cond_reads (cond_of read row.guard)) (flat_map cond_reads (cond.Yes ∷ [])) (cond-read read row.guard)
+    (both-read read (cond_reads cond.Yes) [] (cond-read read Always) (none-read read))) (term-read read row.entry)
+
+kept-read : (b : Bool) (read : ℕ) (c : Cell) (more : List Cell) → ReadsOnly read (cell_reads c) → ReadsOnly read (flat_map cell_reads more)
+    → ReadsOnly read (flat_map cell_reads (if b then c ∷ more else more))
+kept-read true read c more here rest = both-read read (cell_reads c) (flat_map cell_reads more) here rest
+kept-read false read c more here rest = rest
+
+cells-read : (n target read x : ℕ) (rows : List Row) → ReadsOnly read (flat_map cell_reads (filter (λ c. c.target == x) (cells_from n target read rows)))
+cells-read n target read x [] = none-read read
+cells-read n target read x (row ∷ rows) =
+    kept-read (target == x) read (cell_of n target read row) (filter (λ c. c.target == x) (cells_from (n + 1) target read rows)) (row-read n target read row)
+    (cells-read (n + 1) target read x rows)
+
+own-reads : (s : Section) (target read x : ℕ) (rows : List Row) → ReadsOnly read (flat_map cell_reads (cells_for x (table_of s target read rows).grid))
+own-reads s target read x rows = subst (λ cs. ReadsOnly read (flat_map cell_reads (filter (λ c. c.target == x) cs))) (sym (cells-are 0 target read rows))
+    (cells-read 0 target read x rows)
+
 pub inits-good : (v : Variables) → AreGoodVariables v → (x : ℕ) (u : Var) → slice_get (vars_of v) x ≡ Some u → IsWithin u.range u.init
 inits-good v good zero u e = subst (λ (w : Var). IsWithin w.range w.init) (same_Some _ u e) good.monitored.init
 inits-good v good (suc zero) u e = subst (λ (w : Var). IsWithin w.range w.init) (same_Some _ u e) good.controlled.init
 inits-good v good (suc (suc zero)) u e = subst (λ (w : Var). IsWithin w.range w.init) (same_Some _ u e) good.input.init
 inits-good v good (suc (suc (suc zero))) u e = subst (λ (w : Var). IsWithin w.range w.init) (same_Some _ u e) good.output.init
 inits-good v good (suc (suc (suc (suc x)))) u e = absurd (none-some u e)
+
+-- each variable's place is that among its kind
+places-right : (v : Variables) (x : ℕ) (u : Var) → slice_get (vars_of v) x ≡ Some u → u.place ≡ place_of (of_kind u.kind) (vars_of v) x
+places-right v zero u e = subst (λ (w : Var). w.place ≡ place_of (of_kind w.kind) (vars_of v) 0) (same_Some _ u e) refl
+places-right v (suc zero) u e = subst (λ (w : Var). w.place ≡ place_of (of_kind w.kind) (vars_of v) 1) (same_Some _ u e) refl
+places-right v (suc (suc zero)) u e = subst (λ (w : Var). w.place ≡ place_of (of_kind w.kind) (vars_of v) 2) (same_Some _ u e) refl
+places-right v (suc (suc (suc zero))) u e = subst (λ (w : Var). w.place ≡ place_of (of_kind w.kind) (vars_of v) 3) (same_Some _ u e) refl
+places-right v (suc (suc (suc (suc x)))) u e = absurd (none-some u e)
 
 module _ (v : Variables) (t : TableRows) where
   allowed : (s : Section) (target read : ℕ) (rows : List Row) (u : Table) (q : Read) → table_of s target read rows ≡ u → Contains (grid_reads u.grid) q
@@ -190,10 +219,10 @@ module _ (v : Variables) (t : TableRows) where
   rank-falls (of_age m) q c now = absurd (omega (arith, c.1))
   rank-falls (at_now x) q c now = ⊎_elim
       (λ by_req. let at = read-where ((1 == x) || false) (own x (table_of section.Req 1 0 t.required)) q by_req in
-      falls x q 0 (table-reads section.Req 1 0 t.required q (own_reads (table_of section.Req 1 0 t.required).grid x q at.1)) (or_left (1 == x) (3 == x) (⊎_elim (λ is. is) (λ never. absurd (true≢false (sym never))) (or_cases (1 == x) false at.0))) refl)
+      falls x q 0 (own-reads section.Req 1 0 x t.required q at.1) (or_left (1 == x) (3 == x) (⊎_elim (λ is. is) (λ never. absurd (true≢false (sym never))) (or_cases (1 == x) false at.0))) refl)
       (λ rest. ⊎_elim
       (λ by_sof. let at = read-where (false || (3 == x)) (own x (table_of section.Sof 3 2 t.design)) q by_sof in
-      falls x q 2 (table-reads section.Sof 3 2 t.design q (own_reads (table_of section.Sof 3 2 t.design).grid x q at.1)) (or_right (1 == x) (3 == x) at.0) refl)
+      falls x q 2 (own-reads section.Sof 3 2 x t.design q at.1) (or_right (1 == x) (3 == x) at.0) refl)
       (λ none. absurd (omega (arith, none.1)))
       (Contains-append_cases (if (false || (3 == x)) then own x (table_of section.Sof 3 2 t.design) else []) [] q rest))
       (Contains-append_cases (if ((1 == x) || false) then own x (table_of section.Req 1 0 t.required) else [])
@@ -295,8 +324,7 @@ sound-of f good short = record {
   few_memories = omega arith;
   few_tables = omega arith;
   few_clauses = omega arith;
-  places = λ x u e. (Decides-eqb _ _).0
-      (passes (λ x u. u.place == place_of (of_kind u.kind) (vars_of f.variables) x) (vars_of f.variables) refl x u e);
+  places = places-right f.variables;
   shapes = tables-shaped f.rows good.rows;
   has_period = (omega (arith, ints, good.period.0), omega (arith, ints, good.period.1));
   inits = inits-good f.variables good.variables;

@@ -24,9 +24,8 @@ use Rattle.ft_mean.specs.Cells.{cells_of, defined, holding}
 use Rattle.ft_mean.specs.Proper.{IsProper, AllProper, HasOneCell}
 use Rattle.ft_mean.specs.Fits.{side_reading}
 use Rattle.ft_mean.specs.Allowed.{Allowed}
+use Rattle.ft_mean.specs.Laws.{FitsOneTrace, HasOneImage}
 use Rattle.ft_mean.specs.Refines.{FirstDiffers, Refines, Runs, SameAt}
-use Rattle.ft_mean.proofs.Traces.{one_trace}
-use Rattle.ft_mean.proofs.MapsLaw.{one_image}
 use Rattle.ft_cli.specs.Form.{bounds_of}
 use Rattle.ft_cli.specs.FormSet.{IsSetOf, vars_of, var_of, tables_of, table_of}
 use Rattle.ft_cli.specs.Rows.{IsProperOn, IsSameOn, result_at, required_at, designed_at}
@@ -118,13 +117,13 @@ module _ (f : Form) (S : Tables) (is : IsSetOf f S) where
   is-mon : IsVar S monitored 0 (var_of Mon f.variables.monitored)
   is-mon = (declared 0 _ refl, refl)
 
-  is-con : (kinds : Kinds) → IsTrue (kinds Con) → IsVar S kinds 1 (var_of Con f.variables.controlled)
+  is-con : (kinds : Kinds) → IsTrue (kinds 1 (var_of Con f.variables.controlled)) → IsVar S kinds 1 (var_of Con f.variables.controlled)
   is-con kinds k = (declared 1 _ refl, k)
 
   is-input : IsVar S inputs 2 (var_of Input f.variables.input)
   is-input = (declared 2 _ refl, refl)
 
-  is-output : (kinds : Kinds) → IsTrue (kinds Output) → IsVar S kinds 3 (var_of Output f.variables.output)
+  is-output : (kinds : Kinds) → IsTrue (kinds 3 (var_of Output f.variables.output)) → IsVar S kinds 3 (var_of Output f.variables.output)
   is-output kinds k = (declared 3 _ refl, k)
 
   -- the only controlled variable
@@ -132,10 +131,10 @@ module _ (f : Form) (S : Tables) (is : IsSetOf f S) where
   only-controlled x v e = at x (ap (λ vs. slice_get vs x) (sym is.vars) ∙ e.0)
     where
       at : (y : ℕ) → slice_get (vars_of f.variables) y ≡ Some v → 1 ≡ y
-      at zero there = absurd (true≢false (sym (ap (λ (u : Var). controlled u.kind) (same_Some (var_of Mon f.variables.monitored) v there) ∙ e.1)))
+      at zero there = absurd (true≢false (sym (ap (controlled 0) (same_Some (var_of Mon f.variables.monitored) v there) ∙ e.1)))
       at (suc zero) there = refl
-      at (suc (suc zero)) there = absurd (true≢false (sym (ap (λ (u : Var). controlled u.kind) (same_Some (var_of Input f.variables.input) v there) ∙ e.1)))
-      at (suc (suc (suc zero))) there = absurd (true≢false (sym (ap (λ (u : Var). controlled u.kind) (same_Some (var_of Output f.variables.output) v there) ∙ e.1)))
+      at (suc (suc zero)) there = absurd (true≢false (sym (ap (controlled 0) (same_Some (var_of Input f.variables.input) v there) ∙ e.1)))
+      at (suc (suc (suc zero))) there = absurd (true≢false (sym (ap (controlled 0) (same_Some (var_of Output f.variables.output) v there) ∙ e.1)))
       at (suc (suc (suc (suc y)))) there = absurd (none-some v there)
 
 module _ (f : Form) (S : Tables) (is : IsSetOf f S) (proper : AreProper f) where
@@ -203,24 +202,24 @@ module _ (f : Form) (S : Tables) (is : IsSetOf f S) (proper : AreProper f) where
     alike e = required-is ∙ ap Some e ∙ sym designed-is
 
   -- what an allowed list comes to
-  run-of : (h : Scans) → Allowed S h → (r i s c : Scans) × Runs S h r i s c
-  run-of h allowed =
+  run-of : FitsOneTrace → HasOneImage → (h : Scans) → Allowed S h → (r i s c : Scans) × Runs S h r i s c
+  run-of one_trace one_image h allowed =
       let r = one_trace S all-proper side.Req h allowed.monitored_list.values in
       let i = (one_image S all-proper).0 h allowed.monitored_list.values in
       let s = one_trace S all-proper side.Sof i.0 i.1.is.values in
       let c = (one_image S all-proper).1 s.0 s.1.is.values in
       (r.0, i.0, s.0, c.0, record { allowed = allowed; required = r.1; inputs = i.1; design = s.1; outputs = c.1 })
 
-  pub refines : IsSameOn f.rows (bounds_of f.variables.monitored) → Refines S
-  refines same h allowed =
-      let (r, i, s, c, runs) = run-of h allowed in
+  pub refines : FitsOneTrace → HasOneImage → IsSameOn f.rows (bounds_of f.variables.monitored) → Refines S
+  refines one_trace one_image same h allowed =
+      let (r, i, s, c, runs) = run-of one_trace one_image h allowed in
       (r, i, s, c, runs, λ t below. same-at h r i s c runs t below (same (x_of h r i s c runs t below) (x-within h r i s c runs t below)))
 
   -- on a list of one scan at which the rows differ, the controlled value does
-  pub differs : (value : ℤ) → DiffersAt f.rows (bounds_of f.variables.monitored) value → FirstDiffers S (steady 1 value) 0
-  differs value at =
+  pub differs : FitsOneTrace → HasOneImage → (value : ℤ) → DiffersAt f.rows (bounds_of f.variables.monitored) value → FirstDiffers S (steady 1 value) 0
+  differs one_trace one_image value at =
       let allowed = steady-allowed f S is 1 value at.within (omega arith) in
-      let (r, i, s, c, runs) = run-of (steady 1 value) allowed in
+      let (r, i, s, c, runs) = run-of one_trace one_image (steady 1 value) allowed in
       let x-is = reads-steady f S is 1 value at.within 0 0 _ (omega arith) (is-mon f S is) in
       record {
         r = r;

@@ -16,7 +16,8 @@ use Rattle.ft_core.specs.declared.term.Term.{Term}
 use Rattle.ft_core.specs.declared.term.Term.TheVariants.{Num, Now}
 use Rattle.ft_core.specs.declared.term.Cond.{Cond}
 use Rattle.ft_core.specs.declared.term.Cond.TheVariants as cond
-use Rattle.ft_cli.specs.Form.{bound_value, bounds_of, SpellsForm}
+use Rattle.ft_core.specs.Names.{is_set_name}
+use Rattle.ft_cli.specs.Form.{bound_value, bounds_of, names_in, SpellsForm}
 use Rattle.ft_cli.specs.declared.form.Bound.{Bound}
 use Rattle.ft_cli.specs.declared.form.Guard.{Guard}
 use Rattle.ft_cli.specs.declared.form.Guard.TheVariants.{Always, Compare}
@@ -76,6 +77,10 @@ pub record AreShort (t : TableRows) : Type 0 where
   pub required : HaveShortNumbers t.required
   pub design : HaveShortNumbers t.design
   pub output : HaveShortNumbers t.output
+
+-- the set, its variables and its block have names
+abbrev pub HasNames : Form → Type 0
+HasNames f = IsTrue (list_all is_set_name (f.name ∷ names_in f))
 
 -- the block takes the controlled variable and the output, and its goal is the controlled variable
 abbrev pub block_of : List ℕ → Block

@@ -9,7 +9,7 @@ use Rattle.ft_core.specs.Kinds.{monitored, inputs, outputs}
 use Rattle.ft_mean.specs.Reading.{IsVar}
 use Rattle.ft_mean.specs.Allowed.{Allowed}
 use Rattle.ft_mean.specs.Proper.{IsProper, AllProper}
-use Rattle.ft_mean.specs.Refines.{Refines, FirstDiffers}
+use Rattle.ft_mean.specs.Refines.{Refines, FirstDiffers, ShortSafe}
 use Rattle.ft_tree.specs.declared.tree.Tree.{Tree}
 use Rattle.ft_parse.specs.Parse as tree_spelling
 use Rattle.ft_parse.specs.Parse.{IsFault}
@@ -64,11 +64,14 @@ pub record IsVerified (bytes : List ℕ) (S : Tables) (list : List (List ℤ)) :
   pub allowed : Allowed S list
   pub long : length list ≡ S.depth
 
--- no range is so large and the tables are proper; on this list of one scan the design first differs at scan 0
+-- no range is so large and the tables are proper; the environment allows a list of `depth` scans, no list of `scan` scans or fewer shows a
+-- difference, and on this list of one scan the design first differs at scan 0
 pub record IsRefuted (bytes : List ℕ) (S : Tables) (list : List (List ℤ)) (scan : ℕ) : Type 0 where
   pub spelled : Spells bytes S
   pub few : HasPoints S → ⊥
   pub proper : AllProper S
+  pub lists : (other : List (List ℤ)) × Allowed S other × (length other ≡ S.depth)
+  pub safe : ShortSafe S scan
   pub differs : FirstDiffers S list scan
   pub one : length list ≡ 1
   pub first : scan ≡ 0

@@ -1,3 +1,4 @@
+pub mod Exit
 pub mod Form
 pub mod FormSet
 pub mod Judgement

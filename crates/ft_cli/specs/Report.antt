@@ -5,7 +5,8 @@ use Rattle.std.specs.Fmt.{decimal, signed_decimal}
 use Rattle.ft_core.specs.declared.tables.Tables.{Tables}
 use Rattle.ft_core.specs.declared.tables.Section.{Section}
 use Rattle.ft_core.specs.declared.tables.Section.TheVariants as section
-use Rattle.ft_core.specs.Kinds.{monitored}
+use Rattle.ft_core.specs.declared.tables.VarKind.TheVariants.{Mon}
+use Rattle.ft_core.specs.Kinds.{same_kind}
 use Rattle.ft_base.specs.declared.place.Place.{Place}
 use Rattle.ft_parse.specs.declared.stop.LimitWord.{LimitWord}
 use Rattle.ft_parse.specs.declared.stop.LimitWord.TheVariants as limit
@@ -33,7 +34,7 @@ set_line S = line (codes "set " ++ S.name ++ codes " variables " ++ decimal (len
 -- the names of the monitored variables, and then each scan's values, joined by commas
 abbrev pub trace_text : Tables → List (List ℤ) → List ℕ
 trace_text S scans =
-    line (join_with_byte 44 (map (λ v. v.name) (filter (λ v. monitored v.kind) S.vars)))
+    line (join_with_byte 44 (map (λ v. v.name) (filter (λ v. same_kind Mon v.kind) S.vars)))
     ++ flat_map (λ scan. line (join_with_byte 44 (map signed_decimal scan))) scans
 
 abbrev pub section_word : Section → List ℕ

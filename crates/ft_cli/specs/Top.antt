@@ -5,7 +5,10 @@ use Rattle.std.specs.Str.{bytes_eq}
 use Rattle.ft_core.specs.declared.tables.Tables.{Tables}
 use Rattle.ft_mean.specs.Proper.{AllProper}
 use Rattle.ft_port.specs.Causes.{Rose}
-use Rattle.ft_port.specs.Fetching.{IsFile, IsTooLong}
+use Rattle.ft_port.specs.Fetching.{HasReadFault, IsFile, IsTooLong}
+use Rattle.ft_port.specs.Reads.{Read, given}
+use Rattle.ft_port.specs.declared.fetching.FetchError.{FetchError}
+use Rattle.ft_port.specs.declared.fetching.FetchError.TheVariants as fetching
 use Rattle.ft_cli.specs.declared.report.Which.TheVariants.{Set}
 use Rattle.ft_cli.specs.declared.report.Report.{Report}
 use Rattle.ft_cli.specs.declared.report.Report.TheVariants as report
@@ -13,7 +16,7 @@ use Rattle.ft_cli.specs.declared.ended.Ended.{Ended}
 use Rattle.ft_tree.specs.declared.tree.Tree.{Tree}
 use Rattle.ft_parse.specs.Parse as tree_spelling
 use Rattle.ft_cli.specs.FormSet.{Spells}
-use Rattle.ft_cli.specs.Judgement.{HasPoints, IsJudgement, IsPrint, IsVerified}
+use Rattle.ft_cli.specs.Judgement.{HasPoints, IsJudgement, IsPrint, IsRefuted, IsVerified}
 use Rattle.ft_cli.specs.Report.{text_of, status_of}
 
 -- the file F of two words, of which the first is this command
@@ -37,48 +40,85 @@ NamesKnown words names = IfSome (set_file words) (Contains names) × IfSome (pri
 abbrev pub set_limit : ℕ
 set_limit = 4194304
 
--- the report speaks of bytes that the file holds: they are all of the told file
-pub record IsJudged (told : Option (List ℕ)) (r : Report) : Type 0 where
+-- what a call made of a file: what is told of it, the reads of it, the counts of those that failed before the call and now, and how far
+-- the reads came
+pub record Use : Type 0 where
+  pub told : Option (List ℕ)
+  pub reads : List Read
+  pub faults_before : ℕ
+  pub faults_now : ℕ
+  pub reach : ℕ
+
+-- the uses of the files of a shelf
+abbrev pub use_of : (told : List ℕ → Option (List ℕ)) → (reads : List ℕ → List Read) → (faults_before faults_now reach : List ℕ → ℕ) → List ℕ → Use
+use_of told reads faults_before faults_now reach name =
+    record { told = told name; reads = reads name; faults_before = faults_before name; faults_now = faults_now name; reach = reach name }
+
+-- the bytes are all that the file gave up to its end, and all of the told file
+abbrev pub IsRead : Use → List ℕ → Type 0
+IsRead u bytes = IsFile u.told u.reads set_limit bytes
+
+-- the bytes could be had: the told file holds them and is no longer than the limit; or, where nothing is told, they were read, and no
+-- read came beyond the limit
+abbrev pub CanBeRead : Use → List ℕ → Type 0
+CanBeRead u bytes = ((u.told ≡ Some bytes) × (length bytes ≤ set_limit)) ⊎ ((u.told ≡ None) × (bytes ≡ given u.reads) × (u.reach ≤ set_limit))
+
+-- the report speaks of the bytes that were read
+pub record IsJudged (u : Use) (r : Report) : Type 0 where
   pub bytes : List ℕ
-  pub file : IsFile told set_limit bytes
+  pub file : IsRead u bytes
   pub means : IsJudgement bytes r
 
--- what a report on a set's file means, and why it comes: `told` is what the file holds, the counts are the file's. So also of a
--- file that isn't told: where its faults didn't rise and its reads came no further than the limit, the report speaks of bytes that
--- were read, or memory was refused
-abbrev pub IsFileOutcome : (told : Option (List ℕ)) → (faults_before faults_now reach : ℕ) → Report → Type 0
-IsFileOutcome told faults_before faults_now reach report.Usage = ⊥
-IsFileOutcome told faults_before faults_now reach report.ReadFault = Rose faults_before faults_now
-IsFileOutcome told faults_before faults_now reach (report.TooLong which) = (which ≡ Set) × IsTooLong told set_limit reach
-IsFileOutcome told faults_before faults_now reach report.NoMemory = Unit {0}
-IsFileOutcome told faults_before faults_now reach report.Unbuilt = IsJudged told report.Unbuilt
-IsFileOutcome told faults_before faults_now reach report.Points = IsJudged told report.Points
-IsFileOutcome told faults_before faults_now reach (report.Improper title) = IsJudged told (report.Improper title)
-IsFileOutcome told faults_before faults_now reach (report.Verified S list) = IsJudged told (report.Verified S list)
-IsFileOutcome told faults_before faults_now reach (report.Refuted S list scan) = IsJudged told (report.Refuted S list scan)
-IsFileOutcome told faults_before faults_now reach (report.Refused fault) = ⊥
-IsFileOutcome told faults_before faults_now reach (report.Printed tree) = ⊥
+-- what a report on a set's file means, and why it comes
+abbrev pub IsFileOutcome : Use → Report → Type 0
+IsFileOutcome u report.Usage = ⊥
+IsFileOutcome u report.ReadFault = HasReadFault u.reads u.faults_before u.faults_now
+IsFileOutcome u (report.TooLong which) = (which ≡ Set) × IsTooLong u.told u.reads set_limit u.reach
+IsFileOutcome u report.NoMemory = Unit {0}
+IsFileOutcome u report.Unbuilt = IsJudged u report.Unbuilt
+IsFileOutcome u report.Points = IsJudged u report.Points
+IsFileOutcome u (report.Improper title) = IsJudged u (report.Improper title)
+IsFileOutcome u (report.Verified S list) = IsJudged u (report.Verified S list)
+IsFileOutcome u (report.Refuted S list scan) = IsJudged u (report.Refuted S list scan)
+IsFileOutcome u (report.Refused fault) = ⊥
+IsFileOutcome u (report.Printed tree) = ⊥
 
--- the report speaks of bytes that the file holds: they are all of the told file
-pub record IsPrintOf (told : Option (List ℕ)) (r : Report) : Type 0 where
+-- the report speaks of the bytes that were read
+pub record IsPrintOf (u : Use) (r : Report) : Type 0 where
   pub bytes : List ℕ
-  pub file : IsFile told set_limit bytes
+  pub file : IsRead u bytes
   pub means : IsPrint bytes r
 
 -- the same of a report on the tree that a file spells
-abbrev pub IsPrintOutcome : (told : Option (List ℕ)) → (faults_before faults_now reach : ℕ) → Report → Type 0
-IsPrintOutcome told faults_before faults_now reach report.ReadFault = Rose faults_before faults_now
-IsPrintOutcome told faults_before faults_now reach (report.TooLong which) = (which ≡ Set) × IsTooLong told set_limit reach
-IsPrintOutcome told faults_before faults_now reach report.NoMemory = Unit {0}
-IsPrintOutcome told faults_before faults_now reach (report.Refused fault) = IsPrintOf told (report.Refused fault)
-IsPrintOutcome told faults_before faults_now reach (report.Printed tree) = IsPrintOf told (report.Printed tree)
-IsPrintOutcome told faults_before faults_now reach _ = ⊥
+abbrev pub IsPrintOutcome : Use → Report → Type 0
+IsPrintOutcome u report.ReadFault = HasReadFault u.reads u.faults_before u.faults_now
+IsPrintOutcome u (report.TooLong which) = (which ≡ Set) × IsTooLong u.told u.reads set_limit u.reach
+IsPrintOutcome u report.NoMemory = Unit {0}
+IsPrintOutcome u (report.Refused fault) = IsPrintOf u (report.Refused fault)
+IsPrintOutcome u (report.Printed tree) = IsPrintOf u (report.Printed tree)
+IsPrintOutcome u _ = ⊥
 
 -- Usage comes for words of no form, and for no others
-abbrev pub IsOutcome : (set print : Option (List ℕ)) → (told : List ℕ → Option (List ℕ)) → (faults_before faults_now reach : List ℕ → ℕ) → Report → Type 0
-IsOutcome (Some name) print told faults_before faults_now reach r = IsFileOutcome (told name) (faults_before name) (faults_now name) (reach name) r
-IsOutcome None (Some name) told faults_before faults_now reach r = IsPrintOutcome (told name) (faults_before name) (faults_now name) (reach name) r
-IsOutcome None None told faults_before faults_now reach r = (r ≡ report.Usage) ⊎ (r ≡ report.NoMemory)
+abbrev pub IsOutcome : (set print : Option (List ℕ)) → (List ℕ → Use) → Report → Type 0
+IsOutcome (Some name) print uses r = IsFileOutcome (uses name) r
+IsOutcome None (Some name) uses r = IsPrintOutcome (uses name) r
+IsOutcome None None uses r = (r ≡ report.Usage) ⊎ (r ≡ report.NoMemory)
+
+-- the words name this file
+abbrev pub Names : (set print : Option (List ℕ)) → List ℕ → Type 0
+Names set print name = (set ≡ Some name) ⊎ ((set ≡ None) × (print ≡ Some name))
+
+-- the counts and the reads of every file that the words don't name stay
+pub record NoOthers (set print : Option (List ℕ)) (reach_before reach_now faults_before faults_now : List ℕ → ℕ) (reads_before reads_now : List ℕ → List Read) : Type 0 where
+  pub reach : (other : List ℕ) → (Names set print other → ⊥) → reach_now other ≡ reach_before other
+  pub faults : (other : List ℕ) → (Names set print other → ⊥) → faults_now other ≡ faults_before other
+  pub reads : (other : List ℕ) → (Names set print other → ⊥) → reads_now other ≡ reads_before other
+
+-- the report on a set's file that wasn't fetched
+abbrev pub report_on_error : FetchError → Report
+report_on_error fetching.Failed = report.ReadFault
+report_on_error fetching.TooLong = report.TooLong Set
+report_on_error fetching.NoMemory = report.NoMemory
 
 -- the status is the report's; or it is 6, and the sink's faults rose
 abbrev pub HasStatus : (faults_before faults_now : ℕ) → Ended → Type 0
@@ -89,21 +129,30 @@ pub record Writes (before now : Option (List ℕ)) (ended : Ended) : Type 0 wher
   pub all : (old : List ℕ) → before ≡ Some old → ended.status ≢ 6 → now ≡ Some (old ++ text_of ended.report)
   pub part : (old : List ℕ) → before ≡ Some old → ended.status ≡ 6 → (n : ℕ) × (now ≡ Some (old ++ take n (text_of ended.report)))
 
--- all the bytes that the file holds spell a set whose design refines its requirement, and the report keeps a list that is
--- allowed and has `depth` scans
-pub record HasHeadline (told : Option (List ℕ)) (r : Report) : Type 0 where
+-- the bytes that were read spell a set whose design refines its requirement, and the report keeps a list that is allowed and has
+-- `depth` scans
+pub record HasHeadline (u : Use) (r : Report) : Type 0 where
   pub set : Tables
   pub list : List (List ℤ)
   pub bytes : List ℕ
   pub verified : r ≡ report.Verified set list
-  pub file : IsFile told set_limit bytes
+  pub file : IsRead u bytes
   pub means : IsVerified bytes set list
 
--- the file is told and no longer than the limit, and its bytes spell this set, which has no range too large and only proper tables
-pub record CanBeJudged (told : Option (List ℕ)) (S : Tables) : Type 0 where
+-- the bytes that were read spell a set whose design first differs from its requirement on the list that the report keeps
+pub record HasRefutation (u : Use) (r : Report) : Type 0 where
+  pub set : Tables
+  pub list : List (List ℤ)
+  pub scan : ℕ
   pub bytes : List ℕ
-  pub file : told ≡ Some bytes
-  pub short : length bytes ≤ set_limit
+  pub refuted : r ≡ report.Refuted set list scan
+  pub file : IsRead u bytes
+  pub means : IsRefuted bytes set list scan
+
+-- the bytes that could be had spell this set, which has no range too large and only proper tables
+pub record CanBeJudged (u : Use) (S : Tables) : Type 0 where
+  pub bytes : List ℕ
+  pub file : CanBeRead u bytes
   pub spelled : Spells bytes S
   pub few : HasPoints S → ⊥
   pub proper : AllProper S
@@ -116,21 +165,19 @@ IsVerdictOn S report.NoMemory = Unit {0}
 IsVerdictOn S _ = ⊥
 
 -- where the file can be judged and its faults didn't rise, there is a verdict on its set
-abbrev pub IsComplete : Option (List ℕ) → (told : List ℕ → Option (List ℕ)) → (faults_before faults_now : List ℕ → ℕ) → Report
-    → Type 0
-IsComplete file told faults_before faults_now r =
-    (name : List ℕ) (S : Tables) → file ≡ Some name → CanBeJudged (told name) S
-    → (Rose (faults_before name) (faults_now name) → ⊥) → IsVerdictOn S r
+abbrev pub IsComplete : Option (List ℕ) → (List ℕ → Use) → Report → Type 0
+IsComplete file uses r =
+    (name : List ℕ) (S : Tables) → file ≡ Some name → CanBeJudged (uses name) S
+    → (Rose (uses name).faults_before (uses name).faults_now → ⊥) → IsVerdictOn S r
 
--- the file is told and no longer than the limit, and its bytes spell this tree
-pub record CanBePrinted (told : Option (List ℕ)) (tree : Tree) : Type 0 where
+-- the bytes that could be had spell this tree
+pub record CanBePrinted (u : Use) (tree : Tree) : Type 0 where
   pub bytes : List ℕ
-  pub file : told ≡ Some bytes
-  pub short : length bytes ≤ set_limit
+  pub file : CanBeRead u bytes
   pub spelled : tree_spelling.Spells bytes tree
 
 -- where the words are no `verify F`, the file can be printed and its faults didn't rise, its tree is printed; want of memory is free
-abbrev pub PrintsAll : (set print : Option (List ℕ)) → (told : List ℕ → Option (List ℕ)) → (faults_before faults_now : List ℕ → ℕ) → Report → Type 0
-PrintsAll set print told faults_before faults_now r =
-    (name : List ℕ) (tree : Tree) → set ≡ None → print ≡ Some name → CanBePrinted (told name) tree
-    → (Rose (faults_before name) (faults_now name) → ⊥) → (r ≡ report.Printed tree) ⊎ (r ≡ report.NoMemory)
+abbrev pub PrintsAll : (set print : Option (List ℕ)) → (List ℕ → Use) → Report → Type 0
+PrintsAll set print uses r =
+    (name : List ℕ) (tree : Tree) → set ≡ None → print ≡ Some name → CanBePrinted (uses name) tree
+    → (Rose (uses name).faults_before (uses name).faults_now → ⊥) → (r ≡ report.Printed tree) ⊎ (r ≡ report.NoMemory)

@@ -1,5 +1,6 @@
 ghost use Rattle.std.specs.Prelude.{◌≡◌, ◌<◌, ◌-◌, ◌^◌, ◌++◌, ℕ, ℤ, List, [], ◌∷◌, codes, length, IsTrue, IfOk};
 ghost use Rattle.ft_cli.specs.Form.{IsGoodForm, SpellsForm, bounds_of};
+ghost use Rattle.ft_cli.specs.FormSet.{HasNames};
 ghost use Rattle.ft_cli.specs.Judgement.{IsJudgement};
 ghost use Rattle.ft_cli.specs.Report.{section_word};
 ghost use Rattle.ft_cli.specs.Rows.{IsSameOn};
@@ -13,6 +14,7 @@ use crate::set::checked_set;
 use crate::verdict::{Finding, defined_in, examine};
 use ft_base::{List, NoMemory, Text};
 use ft_core::{History, Section};
+use ft_mean::{one_image, one_trace};
 use std::alloc::Global;
 
 /// A list of four scans of this value.
@@ -72,11 +74,14 @@ fn improper(alloc: Global, form: &Form, section: Section) -> Result<Report, NoMe
 /// The report on a set with proper tables whose design puts out something else at this monitored value.
 fn refuted(alloc: Global, form: Form, value: i64) -> Result<Report, NoMemory>
     requires good { IsGoodForm form }
+    requires named { HasNames form }
     requires few { HasLarge form → ⊥ }
     requires proper { AreProper form }
     requires differs { DiffersAt form.rows (bounds_of form.variables.monitored) value }
     ensures { IfOk result (λ report. (bytes : List ℕ) → SpellsForm bytes form → IsJudgement bytes report) }
 {
+    one_trace();
+    one_image();
     let list = one_scan(alloc, value)?;
     let tables = checked_set(alloc, form)?;
     Ok(Report::Refuted {
@@ -89,11 +94,14 @@ fn refuted(alloc: Global, form: Form, value: i64) -> Result<Report, NoMemory>
 /// The report on a set with proper tables whose design puts out what the requirement asks for.
 fn verified(alloc: Global, form: Form) -> Result<Report, NoMemory>
     requires good { IsGoodForm form }
+    requires named { HasNames form }
     requires few { HasLarge form → ⊥ }
     requires proper { AreProper form }
     requires same { IsSameOn form.rows (bounds_of form.variables.monitored) }
     ensures { IfOk result (λ report. (bytes : List ℕ) → SpellsForm bytes form → IsJudgement bytes report) }
 {
+    one_trace();
+    one_image();
     let list = four_scans(alloc, form.variables.monitored.lo.value())?;
     let tables = checked_set(alloc, form)?;
     Ok(Report::Verified { tables, list })
@@ -101,7 +109,8 @@ fn verified(alloc: Global, form: Form) -> Result<Report, NoMemory>
 
 /// What a set of the form comes to.
 fn judge_form(alloc: Global, form: Form) -> Result<Report, NoMemory>
-    requires { IsGoodForm form }
+    requires good { IsGoodForm form }
+    requires named { HasNames form }
     ensures { IfOk result (λ report. (bytes : List ℕ) → SpellsForm bytes form → IsJudgement bytes report) }
 {
     match examine(&form) {

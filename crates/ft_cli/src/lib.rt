@@ -4,6 +4,7 @@
 mod check;
 mod cursor;
 mod ended;
+mod exit;
 mod form;
 mod judging;
 mod law;
@@ -16,6 +17,7 @@ mod top;
 mod verdict;
 
 pub use ended::Ended;
+pub use exit::exit_of;
 pub use judging::judge;
 pub use law::one_set;
 pub use rendering::report_text;

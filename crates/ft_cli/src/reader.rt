@@ -19,7 +19,7 @@ use crate::cursor::{Cursor, Refusal, number_of};
 use crate::form::{Bound, Entry, Form, Guard, Row, TableRows, Variable, Variables};
 use ft_base::{List, Text};
 use ft_core::Rel;
-use ft_lex::{Token, TokenKind, tokens};
+use ft_lex::{Token, TokenKind, one_tokens, tokens};
 use std::alloc::Global;
 
 /// A number with an optional minus.
@@ -318,6 +318,7 @@ pub fn read_form(alloc: Global, text: &[u8]) -> Result<Form, Refusal>
     ensures spelled { IfOk result (SpellsForm text.now) }
     ensures only { (f : Form) → SpellsForm text.now f → Reads result f }
 {
+    one_tokens();
     let tokens = tokens(alloc, text)?;
     from_tokens(alloc, text, tokens.as_slice())
 }

@@ -1,7 +1,7 @@
 ghost use Rattle.std.specs.Prelude.{◌≡◌, [], ◌∷◌, map, IfOk, IsTrue, pos};
 ghost use Rattle.std.specs.List.{list_all};
 ghost use Rattle.ft_cli.specs.Form.{IsGoodForm, IsGoodVariable, bound_value};
-ghost use Rattle.ft_cli.specs.FormSet.{IsSetOf, AreShort, HaveShortNumbers, block_of, cond_of, is_short_bound, is_short_entry, is_short_guard, table_of, tables_of, term_of, var_of, vars_of};
+ghost use Rattle.ft_cli.specs.FormSet.{IsSetOf, AreShort, HasNames, HaveShortNumbers, block_of, cond_of, is_short_bound, is_short_entry, is_short_guard, table_of, tables_of, term_of, var_of, vars_of};
 
 use crate::form::{Bound, Entry, Form, Guard, Row, TableRows, Variable, Variables};
 use ft_base::{Duplicate, List, NoMemory, Range, Text};
@@ -174,7 +174,8 @@ fn blocks(alloc: Global, name: Text) -> Result<List<Block>, NoMemory>
 
 /// The checked set of a form.
 pub fn checked_set(alloc: Global, form: Form) -> Result<Tables, NoMemory>
-    requires { IsGoodForm form }
+    requires good { IsGoodForm form }
+    requires named { HasNames form }
     ensures { IfOk result (IsSetOf form) }
 {
     let tables = tables(alloc, &form.rows)?;

@@ -3,19 +3,19 @@ ghost use Rattle.std.specs.Option.{option_copied};
 ghost use Rattle.std.specs.List.{Contains};
 ghost use Rattle.ft_cli.specs.Report.{text_of};
 ghost use Rattle.ft_cli.specs.Judgement.{IsPrint};
-ghost use Rattle.ft_cli.specs.Top.{file_after, set_file, print_file, IsPrintOutcome, PrintsAll, NamesKnown, IsFileOutcome, IsOutcome, HasStatus, Writes, HasHeadline, IsComplete};
+ghost use Rattle.ft_port.specs.Causes.{one_more};
+ghost use Rattle.ft_port.specs.Shelf.{OthersStay};
+ghost use Rattle.ft_cli.specs.Top.{file_after, set_file, print_file, report_on_error, use_of, NoOthers, IsPrintOutcome, PrintsAll, NamesKnown, IsFileOutcome, IsOutcome, HasStatus, Writes, HasHeadline, HasRefutation, IsComplete};
 
 use crate::ended::Ended;
 use crate::judging::judge;
+use crate::law::one_set;
 use crate::rendering::{report_text, status_for};
 use crate::report::{Report, Which};
 use ft_base::NoMemory;
 use ft_parse::{ParseFault, parse};
 use ft_port::{Failed, FetchError, Shelf, Sink, fetch};
 use std::alloc::Global;
-
-#[cfg(test)]
-mod tests;
 
 /// The longest file of a set, in bytes.
 const SET_LIMIT: u64 = 4_194_304;
@@ -42,18 +42,28 @@ pub fn file_words(words: &[String]) -> &[String]
     }
 }
 
+/// The report on a set's file that wasn't fetched.
+fn unfetched(error: FetchError) -> Report
+    ensures { result ≡ report_on_error error }
+{
+    match error {
+        FetchError::Failed => Report::ReadFault,
+        FetchError::TooLong => Report::TooLong(Which::Set),
+        FetchError::NoMemory => Report::NoMemory,
+    }
+}
+
 /// What the set in this file comes to.
 fn report_on_file<S: Shelf>(alloc: Global, name: &str, shelf: &mut S) -> Report
     requires { Contains (S.names shelf.old) name.now }
-    ensures outcome { IsFileOutcome (S.told shelf.old name.now) (S.faults shelf.old name.now) (S.faults shelf.new name.now) (S.reach shelf.new name.now) result }
+    ensures outcome { IsFileOutcome (use_of (S.told shelf.old) (S.reads shelf.new) (S.faults shelf.old) (S.faults shelf.new) (S.reach shelf.new) name.now) result }
+    ensures others { OthersStay name.now (S.reach shelf.old) (S.reach shelf.new) (S.faults shelf.old) (S.faults shelf.new) (S.reads shelf.old) (S.reads shelf.new) }
     ensures told { S.told shelf.new ≡ S.told shelf.old }
     ensures names { S.names shelf.new ≡ S.names shelf.old }
 {
     match fetch(alloc, shelf, name, SET_LIMIT) {
         Ok(text) => judge(alloc, text.as_slice()),
-        Err(FetchError::Failed) => Report::ReadFault,
-        Err(FetchError::TooLong) => Report::TooLong(Which::Set),
-        Err(FetchError::NoMemory) => Report::NoMemory,
+        Err(error) => unfetched(error),
     }
 }
 
@@ -75,22 +85,22 @@ fn print(alloc: Global, text: &[u8]) -> Report
 /// What the tree in this file comes to.
 fn print_of_file<S: Shelf>(alloc: Global, name: &str, shelf: &mut S) -> Report
     requires { Contains (S.names shelf.old) name.now }
-    ensures outcome { IsPrintOutcome (S.told shelf.old name.now) (S.faults shelf.old name.now) (S.faults shelf.new name.now) (S.reach shelf.new name.now) result }
+    ensures outcome { IsPrintOutcome (use_of (S.told shelf.old) (S.reads shelf.new) (S.faults shelf.old) (S.faults shelf.new) (S.reach shelf.new) name.now) result }
+    ensures others { OthersStay name.now (S.reach shelf.old) (S.reach shelf.new) (S.faults shelf.old) (S.faults shelf.new) (S.reads shelf.old) (S.reads shelf.new) }
     ensures told { S.told shelf.new ≡ S.told shelf.old }
     ensures names { S.names shelf.new ≡ S.names shelf.old }
 {
     match fetch(alloc, shelf, name, SET_LIMIT) {
         Ok(text) => print(alloc, text.as_slice()),
-        Err(FetchError::Failed) => Report::ReadFault,
-        Err(FetchError::TooLong) => Report::TooLong(Which::Set),
-        Err(FetchError::NoMemory) => Report::NoMemory,
+        Err(error) => unfetched(error),
     }
 }
 
 /// What the words ask for.
 fn report_on<S: Shelf>(alloc: Global, words: &[String], shelf: &mut S) -> Report
     requires { NamesKnown (map string_bytes words.now) (S.names shelf.old) }
-    ensures outcome { IsOutcome (set_file (map string_bytes words.now)) (print_file (map string_bytes words.now)) (S.told shelf.old) (S.faults shelf.old) (S.faults shelf.new) (S.reach shelf.new) result }
+    ensures outcome { IsOutcome (set_file (map string_bytes words.now)) (print_file (map string_bytes words.now)) (use_of (S.told shelf.old) (S.reads shelf.new) (S.faults shelf.old) (S.faults shelf.new) (S.reach shelf.new)) result }
+    ensures others { NoOthers (set_file (map string_bytes words.now)) (print_file (map string_bytes words.now)) (S.reach shelf.old) (S.reach shelf.new) (S.faults shelf.old) (S.faults shelf.new) (S.reads shelf.old) (S.reads shelf.new) }
     ensures told { S.told shelf.new ≡ S.told shelf.old }
     ensures names { S.names shelf.new ≡ S.names shelf.old }
 {
@@ -109,6 +119,7 @@ fn write_report<K: Sink>(report: Report, text: &[u8], sink: &mut K) -> Ended
     ensures report { result.report ≡ report }
     ensures status { HasStatus (K.faults sink.old) (K.faults sink.new) result }
     ensures written { Writes (K.taken sink.old) (K.taken sink.new) result }
+    ensures once { K.writes sink.new ≡ one_more (K.writes sink.old) }
 {
     match sink.write(text) {
         Ok(()) => Ended {
@@ -124,6 +135,7 @@ fn answer<K: Sink>(alloc: Global, report: Report, sink: &mut K) -> Ended
     ensures report { (result.report ≡ report) ⊎ (result.report ≡ Report.NoMemory) }
     ensures status { HasStatus (K.faults sink.old) (K.faults sink.new) result }
     ensures written { Writes (K.taken sink.old) (K.taken sink.new) result }
+    ensures once { K.writes sink.new ≡ one_more (K.writes sink.old) }
 {
     match report_text(alloc, &report) {
         Ok(text) => write_report(report, text.as_slice(), sink),
@@ -135,15 +147,19 @@ fn answer<K: Sink>(alloc: Global, report: Report, sink: &mut K) -> Ended
 /// name are among the shelf's.
 pub fn run<S: Shelf, K: Sink>(alloc: Global, words: &[String], shelf: &mut S, sink: &mut K) -> Ended
     requires { NamesKnown (map string_bytes words.now) (S.names shelf.old) }
-    ensures headline { (name : List ℕ) → set_file (map string_bytes words.now) ≡ Some name → result.status ≡ 0 → HasHeadline (S.told shelf.old name) result.report }
-    ensures complete { IsComplete (set_file (map string_bytes words.now)) (S.told shelf.old) (S.faults shelf.old) (S.faults shelf.new) result.report }
-    ensures prints { PrintsAll (set_file (map string_bytes words.now)) (print_file (map string_bytes words.now)) (S.told shelf.old) (S.faults shelf.old) (S.faults shelf.new) result.report }
-    ensures outcome { IsOutcome (set_file (map string_bytes words.now)) (print_file (map string_bytes words.now)) (S.told shelf.old) (S.faults shelf.old) (S.faults shelf.new) (S.reach shelf.new) result.report }
+    ensures headline { (name : List ℕ) → set_file (map string_bytes words.now) ≡ Some name → result.status ≡ 0 → HasHeadline (use_of (S.told shelf.old) (S.reads shelf.new) (S.faults shelf.old) (S.faults shelf.new) (S.reach shelf.new) name) result.report }
+    ensures refutation { (name : List ℕ) → set_file (map string_bytes words.now) ≡ Some name → result.status ≡ 1 → HasRefutation (use_of (S.told shelf.old) (S.reads shelf.new) (S.faults shelf.old) (S.faults shelf.new) (S.reach shelf.new) name) result.report }
+    ensures complete { IsComplete (set_file (map string_bytes words.now)) (use_of (S.told shelf.old) (S.reads shelf.new) (S.faults shelf.old) (S.faults shelf.new) (S.reach shelf.new)) result.report }
+    ensures prints { PrintsAll (set_file (map string_bytes words.now)) (print_file (map string_bytes words.now)) (use_of (S.told shelf.old) (S.reads shelf.new) (S.faults shelf.old) (S.faults shelf.new) (S.reach shelf.new)) result.report }
+    ensures outcome { IsOutcome (set_file (map string_bytes words.now)) (print_file (map string_bytes words.now)) (use_of (S.told shelf.old) (S.reads shelf.new) (S.faults shelf.old) (S.faults shelf.new) (S.reach shelf.new)) result.report }
+    ensures others { NoOthers (set_file (map string_bytes words.now)) (print_file (map string_bytes words.now)) (S.reach shelf.old) (S.reach shelf.new) (S.faults shelf.old) (S.faults shelf.new) (S.reads shelf.old) (S.reads shelf.new) }
     ensures status { HasStatus (K.faults sink.old) (K.faults sink.new) result }
     ensures written { Writes (K.taken sink.old) (K.taken sink.new) result }
+    ensures once { K.writes sink.new ≡ one_more (K.writes sink.old) }
     ensures told { S.told shelf.new ≡ S.told shelf.old }
     ensures names { S.names shelf.new ≡ S.names shelf.old }
 {
+    one_set();
     let report = report_on(alloc, words, shelf);
     answer(alloc, report, sink)
 }

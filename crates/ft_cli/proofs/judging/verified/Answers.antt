@@ -19,7 +19,7 @@ returns c = λ bytes spelled.
       spelled = record { form = c.args.form; spelled = spelled; is = is };
       few = few c.args.form c.in_ok-tables.tables is c.requires.few;
       proper = all-proper c.args.form c.in_ok-tables.tables is c.requires.proper;
-      refines = refines c.args.form c.in_ok-tables.tables is c.requires.proper c.requires.same;
+      refines = refines c.args.form c.in_ok-tables.tables is c.requires.proper c.one_trace.ensures c.one_image.ensures c.requires.same;
       allowed = subst (Allowed c.in_ok-tables.tables) (sym list)
           (steady-allowed c.args.form c.in_ok-tables.tables is 4 (bound_value c.args.form.variables.monitored.lo) (omega (arith, ints), good.range.0) (omega arith));
       long = ap length list ∙ sym is.depth;
