@@ -26,8 +26,12 @@ abbrev pub HasUnknown : ℕ → Option ℕ → Type 0
 HasUnknown count None = Unit {0}
 HasUnknown count (Some u) = u < count
 
+-- the greatest difference of a line, either way
+abbrev pub difference_most : ℕ
+difference_most = 5000000000000000
+
 -- a line over this many unknowns
 pub record IsOver (count : ℕ) (d : Diff) : Type 0 where
   pub x : HasUnknown count d.x
   pub y : HasUnknown count d.y
-  pub c : unsigned_abs d.c ≤ 5000000000000000
+  pub c : unsigned_abs d.c ≤ difference_most

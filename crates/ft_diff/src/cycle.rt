@@ -7,7 +7,7 @@
 // one, so its sum is below 0. Hence there is at most one round more than there are unknowns that stand first in lines.
 
 ghost use Rattle.std.specs.Prelude.{◌≡◌, ◌≤◌, ◌+◌, ◌*◌, ◌+ℤ◌, ℕ, ℤ, unsigned_abs, All, Contains, IsTrue, IfSome, Some};
-ghost use Rattle.ft_diff.specs.Differences.{Meets};
+ghost use Rattle.ft_diff.specs.Differences.{Meets, difference_most};
 
 use crate::diff::Diff;
 
@@ -41,17 +41,17 @@ pub fn far_back(list: &[Diff], lowered_by: &[usize], start: u32) -> u32 {
 }
 
 fn plus(total: i128, c: i64, count: usize) -> i128
-    requires total { unsigned_abs total ≤ 5000000000000000 * count }
-    requires c { unsigned_abs c ≤ 5000000000000000 }
+    requires total { unsigned_abs total ≤ difference_most * count }
+    requires c { unsigned_abs c ≤ difference_most }
     ensures sum { result ≡ total +ℤ c }
-    ensures small { unsigned_abs result ≤ 5000000000000000 * (count + 1) }
+    ensures small { unsigned_abs result ≤ difference_most * (count + 1) }
 {
     total + i128::from(c)
 }
 
 /// Whether the lines that lowered unknowns last lead from this unknown back to it with a sum below 0.
 pub fn is_negative_cycle(list: &[Diff], lowered_by: &[usize], start: u32) -> bool
-    requires { All (λ line. unsigned_abs line.c ≤ 5000000000000000) list.now }
+    requires { All (λ line. unsigned_abs line.c ≤ difference_most) list.now }
     ensures { IsTrue result → (x : ℕ → ℤ) → All (Meets x) list.now → ⊥ }
 {
     let mut unknown = start;

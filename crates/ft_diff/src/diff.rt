@@ -1,5 +1,5 @@
 /// The line `x - y <= c`. An unknown is given by its number, and None stands for 0.
-#[derive(Clone, Copy, Debug, PartialEq, Eq, Drop)]
+#[derive(Clone, Copy, PartialEq, Eq, Drop)]
 pub struct Diff {
     /// The unknown that is at most `c` above the other.
     pub x: Option<u32>,

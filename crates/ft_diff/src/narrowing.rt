@@ -2,8 +2,9 @@
 // one that falls below its least number leaves no solution.
 
 ghost use Rattle.std.specs.Prelude.{◌≡◌, ◌≤◌, ◌<◌, ◌+ℤ◌, ◌≤ℤ◌, ◌<ℤ◌, length, unsigned_abs, All, IfSome, IfNone};
+ghost use Rattle.ft_linear.specs.Bounds.{value_most};
 ghost use Rattle.ft_linear.specs.Form.{InArea};
-ghost use Rattle.ft_diff.specs.Differences.{IsOver, HasUnknown, Meets, number_at};
+ghost use Rattle.ft_diff.specs.Differences.{IsOver, HasUnknown, Meets, number_at, difference_most};
 ghost use Rattle.ft_diff.specs.Narrowing.{HasOutcome, highs, after, is_barred};
 
 use crate::diff::Diff;
@@ -22,8 +23,8 @@ pub enum Step {
 
 // The sum of a greatest number and the greatest difference to it.
 fn reach(high: i64, c: i64) -> i64
-    requires high { unsigned_abs high ≤ 4000000000000000 }
-    requires c { unsigned_abs c ≤ 5000000000000000 }
+    requires high { unsigned_abs high ≤ value_most }
+    requires c { unsigned_abs c ≤ difference_most }
     ensures { result ≡ high +ℤ c }
 {
     high + c
@@ -33,7 +34,7 @@ fn reach(high: i64, c: i64) -> i64
 fn highest(spans: &[Span], unknown: Option<u32>) -> i64
     requires { HasUnknown (length spans.now) unknown }
     ensures value { result ≡ number_at (highs spans.now) unknown }
-    ensures small { unsigned_abs result ≤ 4000000000000000 }
+    ensures small { unsigned_abs result ≤ value_most }
 {
     match unknown {
         Some(unknown) => spans[unknown as usize].hi(),

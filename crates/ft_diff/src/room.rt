@@ -5,7 +5,7 @@ use std::alloc::Global;
 use std::marker::Model;
 
 /// Room in which differences are solved, taken once. Contracts see a number for each unknown that there is room for.
-#[derive(Debug, Drop)]
+#[derive(Drop)]
 pub struct DiffRoom {
     pub(crate) spans: Vec<Span>,
     pub(crate) lowered_by: Vec<usize>,

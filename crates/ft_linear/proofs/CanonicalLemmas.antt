@@ -9,13 +9,15 @@ use Rattle.std.proofs.lemmas.List.{take_more, take_all}
 use Rattle.std.proofs.lemmas.Nat.Gcd.{dvd_refl, dvd-zero, dvd_trans, dvd_antisymm, le_of_dvd, dvd_of_mod-eq-zero, mod-eq-zero_of_dvd}
 use Rattle.std.proofs.Math.Nat.{div-le_self}
 use Rattle.ft_base.specs.Division.{floor_of}
-use Rattle.ft_linear.specs.Form.{Factor, Form, AreRising, IsSmall, sum_at, form_at}
+use Rattle.ft_linear.specs.Bounds.{value_most}
+use Rattle.ft_linear.specs.Form.{Factor, LinView, AreRising, IsSmall, sum_at, form_at}
 use Rattle.ft_linear.specs.Rules.{literal_form}
 use Rattle.ft_linear.specs.Canonical.{begins_well, divides_all, greatest_divisor, gcd_of, divided, canonical, is_positive, quotient_of}
 use Rattle.ft_linear.proofs.Whole.{mul-neg, mul-add, divided-form, quotient-is}
 use Rattle.ft_linear.proofs.NodeLemmas.{map-map}
 use Rattle.ft_linear.proofs.ForcedLaws.{both-true, eq-nat}
 use Rattle.ft_linear.proofs.UnknownLemmas.{times-none, mul-assoc, sum-turned}
+use Rattle.ft_linear.proofs.Basics.{is-zero}
 
 abbrev pub DividesEach : ℕ → List Factor → Type 0
 DividesEach d [] = Unit {0}
@@ -77,14 +79,14 @@ no-zero : (g n : ℕ) → g ∣ n → 0 < n → 0 < g
 no-zero zero n d above = let e = dvd_antisymm d (dvd-zero n) in absurd (omega (arith, e, above))
 no-zero (suc g) n d above = omega arith
 
-pub gcd-is : (g : ℕ) (fs : List Factor) → 0 < length fs → AreRising 0 fs → IsDivisor g fs → (g ≡ gcd_of fs) × (0 < g) × (g ≤ 4000000000000000)
+pub gcd-is : (g : ℕ) (fs : List Factor) → 0 < length fs → AreRising 0 fs → IsDivisor g fs → (g ≡ gcd_of fs) × (0 < g) × (g ≤ value_most)
 gcd-is g [] some rising h = absurd (omega (arith, some))
 gcd-is g (f ∷ fs) some rising h =
     let each = (h g).0 (dvd_refl g) in
     let n_some : 0 < unsigned_abs f.1 = abs-some f.1 rising.1 in
     let above : 0 < g = no-zero g (unsigned_abs f.1) each.0 n_some in
     let low : g ≤ unsigned_abs f.1 = le_of_dvd n_some each.0 in
-    let small : unsigned_abs f.1 ≤ 4000000000000000 = rising.2 in (
+    let small : unsigned_abs f.1 ≤ value_most = rising.2 in (
       sym (greatest-is (unsigned_abs f.1) g (f ∷ fs) low above (test-of g (f ∷ fs) each)
           (λ d less so. let le = le_of_dvd above ((h d).1 (of-test d (f ∷ fs) so)) in omega (arith, less, le))),
       above,
@@ -113,9 +115,6 @@ begins-well (f ∷ fs) from h = elim (cases_Bool (int_eq f.1 (pos 0))) [
   | inl so ↦ absurd (h.1 (is-zero f.1 so))
   | inr isnt ↦ ap not isnt
 ]
-  where
-    is-zero : (z : ℤ) → int_eq z (pos 0) ≡ true → z ≡ pos 0
-    is-zero z e = grind (arith, ints)
 
 not-zero : (z : ℤ) → not (int_eq z (pos 0)) ≡ true → z ≢ pos 0
 not-zero z e same = cc (sym e ∙ ap (λ (y : ℤ). not (int_eq y (pos 0))) same)
@@ -160,11 +159,11 @@ quotients-rise b g from [] h each rising = tt
 quotients-rise b g from (f ∷ fs) h each rising = (
   rising.0,
   signed-some b (floor_of f.1 (pos g)) (quotient-some f.1 g h each.0 rising.1),
-  signed-small b (floor_of f.1 (pos g)) (let s = quotient-small f.1 g h in let t : unsigned_abs f.1 ≤ 4000000000000000 = rising.2 in omega (arith, s, t)),
+  signed-small b (floor_of f.1 (pos g)) (let s = quotient-small f.1 g h in let t : unsigned_abs f.1 ≤ value_most = rising.2 in omega (arith, s, t)),
   quotients-rise b g (f.0 + 1) fs h each.1 rising.3,
 )
 
-pub quotients-are : (b : Bool) (g : ℕ) (l : Form)
+pub quotients-are : (b : Bool) (g : ℕ) (l : LinView)
     → literal_form b (divided g l) ≡ record { factors = map (quotient_of b g) l.factors; constant = cond b (neg_ℤ (floor_of (neg_ℤ l.constant) (pos g))) (pos 1 -ℤ neg_ℤ (floor_of (neg_ℤ l.constant) (pos g))) }
 quotients-are true g l = refl
 quotients-are false g l = λ i. record { factors = map-map (λ (f : Factor). (f.0, neg_ℤ f.1)) (λ (f : Factor). (f.0, floor_of f.1 (pos g))) l.factors i; constant = pos 1 -ℤ neg_ℤ (floor_of (neg_ℤ l.constant) (pos g)) }
@@ -194,12 +193,12 @@ module _ (x : ℕ → ℤ) where
       is-so : (z : ℤ) → z ≤ℤ pos 0 → int_le z (pos 0) ≡ true
       is-so z h = grind (arith, ints)
 
-  divided-same : (g : ℕ) (l : Form) → 0 < g → DividesEach g l.factors → int_le (form_at x l) (pos 0) ≡ int_le (form_at x (divided g l)) (pos 0)
+  divided-same : (g : ℕ) (l : LinView) → 0 < g → DividesEach g l.factors → int_le (form_at x l) (pos 0) ≡ int_le (form_at x (divided g l)) (pos 0)
   divided-same g l h each =
       ap (λ (s : ℤ). int_le (s +ℤ l.constant) (pos 0)) (sum-divided g l.factors h each)
       ∙ same-test _ _ (divided-form (sum_at x (map (λ f. (f.0, floor_of f.1 (pos g))) l.factors)) l.constant g h)
 
-  literal-same : (b : Bool) (l : Form) → int_le (form_at x (literal_form b l)) (pos 0) ≡ (if b then int_le (form_at x l) (pos 0) else not (int_le (form_at x l) (pos 0)))
+  literal-same : (b : Bool) (l : LinView) → int_le (form_at x (literal_form b l)) (pos 0) ≡ (if b then int_le (form_at x l) (pos 0) else not (int_le (form_at x l) (pos 0)))
   literal-same true l = refl
   literal-same false l = ap (λ (s : ℤ). int_le (s +ℤ (pos 1 -ℤ l.constant)) (pos 0)) (sum-turned x l.factors) ∙ opposite (sum_at x l.factors) l.constant
     where
@@ -210,7 +209,7 @@ module _ (x : ℕ → ℤ) where
       ]
 
   -- a form's atom is its canonical atom, or the negation of that
-  pub canonical-same : (l : Form) → 0 < length l.factors → begins_well l.factors ≡ true
+  pub canonical-same : (l : LinView) → 0 < length l.factors → begins_well l.factors ≡ true
       → int_le (form_at x l) (pos 0) ≡ (if is_positive l.factors then int_le (form_at x (canonical l)) (pos 0) else not (int_le (form_at x (canonical l)) (pos 0)))
   canonical-same l some well =
       let (each, above) = gcd-divides l.factors some well in

@@ -1,3 +1,4 @@
+mod Basics
 pub mod NodeLemmas
 pub mod FormLemmas
 pub mod ForcedLaws

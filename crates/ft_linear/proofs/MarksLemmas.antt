@@ -12,14 +12,15 @@ use Rattle.ft_base.specs.declared.three.Three.{Three}
 use Rattle.ft_base.specs.declared.three.Three.TheVariants.{Maybe}
 use Rattle.ft_linear.specs.declared.node.Node.{Node}
 use Rattle.ft_linear.specs.declared.forcing.Signs.{Signs}
-use Rattle.ft_linear.specs.Formula.{Statement}
+use Rattle.ft_linear.specs.Formula.{FormulaView}
 use Rattle.ft_linear.specs.Forced.{forces}
-use Rattle.ft_linear.specs.Part.{Region, decision, fixed, fixed_form, value_by, atom_value, is_forced_both, atoms_of}
+use Rattle.ft_linear.specs.Part.{PartView, decision, fixed, fixed_form, value_by, atom_value, is_forced_both, atoms_of}
 use Rattle.ft_linear.specs.Slots.{value_at, slots_of, Adds, with_more}
-use Rattle.ft_linear.specs.Form.{Form}
+use Rattle.ft_linear.specs.Form.{LinView}
 use Rattle.ft_linear.specs.Marks.{size_of, signs_of, decided_at}
 use Rattle.ft_linear.proofs.NodeLemmas.{With, bare, node_induction, list_any-map, size-At, size-Not, size-And, size-Or}
 use Rattle.ft_linear.proofs.SlotLemmas.{slots-At, slots-Not, slots-And, slots-Or}
+use Rattle.ft_linear.proofs.Basics.{or-none, or-assoc}
 
 pub OnOk_then : {T E : Type 0} (r : Result T E) {P Q : Type 0} → OnOk r P → (P → Q) → OnOk r Q
 OnOk_then (Ok v) h k = k h
@@ -62,14 +63,6 @@ written-more g xs ys i x within set is before a below = elim (cases_eq a i) [
   | inr other ↦ let low : a < i = grind (arith, below, other) in ap (λ l. slice_get l a) set ∙ set-other xs i a x low ∙ before a low
 ]
 
-or-none : (b : Bool) → (b || false) ≡ b
-or-none true = refl
-or-none false = refl
-
-or-assoc : (a b c : Bool) → ((a || b) || c) ≡ (a || (b || c))
-or-assoc true b c = refl
-or-assoc false b c = refl
-
 and-all : (b : Bool) → (b && true) ≡ b
 and-all true = refl
 and-all false = refl
@@ -99,7 +92,7 @@ module _ (q : ℕ → Bool) (n : ℕ) (b c : Bool) (here : c ≡ q n) where
   pub all-more : b ≡ list_all q (range_with_len 0 n) → (b && c) ≡ list_all q (range_with_len 0 (n + 1))
   all-more h = (λ i. h i && (here ∙ sym none-before) i) ∙ sym (ap (list_all q) one-after ∙ all-from q 0 n)
 
-module _ (f : Statement) (p : Region) (same : length p.decided ≡ length f.atoms) where
+module _ (f : FormulaView) (p : PartView) (same : length p.decided ≡ length f.atoms) where
   past-value : (a : ℕ) → length f.atoms ≤ a → atom_value f p a ≡ Maybe
   past-value a past = (λ i. value_by (unwrap_or (slice_get_past p.decided a (omega (arith, same, past)) i) None) (fixed f p a)) ∙ ap (fixed_form p.spans) (slice_get_past f.atoms a past)
 
@@ -116,7 +109,7 @@ pub one-node : (new before old parts whole : ℕ) → new ≡ before + parts →
 one-node new before old parts whole a b c = omega (arith, a, b, c)
 
 -- what both passes leave of the forced literals
-module _ (f : Statement) (p : Region) (mid new : List Signs) (long : length new ≡ length f.atoms)
+module _ (f : FormulaView) (p : PartView) (mid new : List Signs) (long : length new ≡ length f.atoms)
     (decided : (a : ℕ) → a < length f.atoms → slice_get mid a ≡ Some (decided_at p a)) (adds : Adds (forces (atom_value f p) f.root true) mid new) where
   pub signs-are : (a : ℕ) → a < length f.atoms → slice_get new a ≡ Some (signs_of f p a)
   signs-are a below = adds a ∙ ap (option_map (with_more (forces (atom_value f p) f.root true a true) (forces (atom_value f p) f.root true a false))) (decided a below)
@@ -128,10 +121,10 @@ module _ (f : Statement) (p : Region) (mid new : List Signs) (long : length new 
   any-both = ap (list_any (λ (s : Signs). s.yes && s.no)) all-signs ∙ list_any-map (λ (s : Signs). s.yes && s.no) (signs_of f p) (atoms_of f)
 
 -- an atom's decision and what it is fixed to, by what is read
-pub atom-read : (f : Statement) (p : Region) (at : ℕ) (dec : Option Bool) (here : Three) (item : Form) (spans : List (ℤ × ℤ)) (decided : List (Option Bool)) (atoms : List Form)
+pub atom-read : (f : FormulaView) (p : PartView) (at : ℕ) (dec : Option Bool) (here : Three) (item : LinView) (spans : List (ℤ × ℤ)) (decided : List (Option Bool)) (atoms : List LinView)
     → slice_get decided at ≡ Some dec → decided ≡ p.decided → here ≡ fixed_form spans (Some item) → spans ≡ p.spans → slice_get atoms at ≡ Some item → atoms ≡ f.atoms
     → (dec ≡ decision p at) × (here ≡ fixed f p at)
 atom-read f p at dec here item spans decided atoms d ds h ss is as_is = (
   ap (λ (o : Option (Option Bool)). unwrap_or o None) (sym d) ∙ ap (λ (l : List (Option Bool)). unwrap_or (slice_get l at) None) ds,
-  h ∙ (λ i. fixed_form (ss i) (sym is i)) ∙ ap (λ (l : List Form). fixed_form p.spans (slice_get l at)) as_is,
+  h ∙ (λ i. fixed_form (ss i) (sym is i)) ∙ ap (λ (l : List LinView). fixed_form p.spans (slice_get l at)) as_is,
 )

@@ -10,7 +10,8 @@ use Rattle.ft_linear.specs.Truth.{truth, layer_truth, itself}
 use Rattle.ft_base.specs.declared.three.Three.{Three}
 use Rattle.ft_linear.specs.Formula.{atoms_below, layer_below}
 use Rattle.ft_linear.specs.Marks.{size_of, layer_size}
-use Rattle.ft_linear.specs.Forced.{Seen, seen, layer_seen, value_of, forces, same_bool, three_all, three_any, three_not, and_forces, or_forces}
+use Rattle.ft_linear.specs.Forced.{Seen, seen, layer_seen, value_of, forces, same_bool, and_forces, or_forces}
+use Rattle.ft_base.specs.Three.{three_all, three_any, three_not}
 
 pub list_any-map : {X Y : Type 0} (p : X → Bool) (h : Y → X) (ys : List Y) → list_any p (map h ys) ≡ list_any (λ y. p (h y)) ys
 list_any-map p h [] = refl

@@ -10,11 +10,12 @@ use Rattle.std.proofs.lemmas.List.Elements.{All-head, All-tail}
 use Rattle.ft_base.specs.Interval.{IsWithin}
 use Rattle.ft_base.specs.declared.three.Three.{Three}
 use Rattle.ft_base.specs.declared.three.Three.TheVariants.{No, Maybe, Yes}
-use Rattle.ft_linear.specs.Form.{Form, Factor, sum_at, InArea, span_at, HasUnknowns, most, least, high_end, low_end}
-use Rattle.ft_linear.specs.Formula.{Statement, atom_at, form_truth, Satisfies, IsOver}
+use Rattle.ft_linear.specs.Form.{LinView, Factor, sum_at, InArea, span_at, HasUnknowns, most, least, high_end, low_end}
+use Rattle.ft_linear.specs.Formula.{FormulaView, atom_at, form_truth, Satisfies, IsOver}
 use Rattle.ft_linear.specs.Truth.{truth}
-use Rattle.ft_linear.specs.Forced.{is_yes, value_of, is_no}
-use Rattle.ft_linear.specs.Part.{Region, agrees, is_against, is_forced_both, fixed_form, fixed, decision, value_by, atom_value, is_decision, forced, against, atoms_of, truth_of, PointOf}
+use Rattle.ft_linear.specs.Forced.{value_of}
+use Rattle.ft_base.specs.Three.{is_yes, is_no}
+use Rattle.ft_linear.specs.Part.{PartView, agrees, is_against, is_forced_both, fixed_form, fixed, decision, value_by, atom_value, is_decision, forced, against, atoms_of, truth_of, PointOf}
 use Rattle.ft_linear.proofs.ForcedLaws.{Agrees, SoundAtoms, no-false, yes-true, value_agrees, forced_so, same-bools, both-true}
 use Rattle.ft_linear.proofs.Whole.{times-up, times-down}
 
@@ -55,7 +56,7 @@ by-tests high low v c a b = elim (cases_Bool (int_le (high +ℤ c) (pos 0))) [
   ]
 ]
 
-fixed-agrees : (spans : List (ℤ × ℤ)) (x : ℕ → ℤ) (o : Option Form) → InArea spans x → ((l : Form) → o ≡ Some l → HasUnknowns (length spans) l.factors) → Agrees (fixed_form spans o) (form_truth x o)
+fixed-agrees : (spans : List (ℤ × ℤ)) (x : ℕ → ℤ) (o : Option LinView) → InArea spans x → ((l : LinView) → o ≡ Some l → HasUnknowns (length spans) l.factors) → Agrees (fixed_form spans o) (form_truth x o)
 fixed-agrees spans x None area h = tt
 fixed-agrees spans x (Some l) area h = by-tests (most spans l.factors) (least spans l.factors) (sum_at x l.factors) l.constant
     (at-most spans x l.factors area (h l refl)) (at-least spans x l.factors area (h l refl))
@@ -65,10 +66,10 @@ by-decision None v b h k = h
 by-decision (Some true) v b h k = k true refl
 by-decision (Some false) v b h k = k false refl
 
-over-at : (count : ℕ) (f : Statement) → IsOver count f → (a : ℕ) (l : Form) → slice_get f.atoms a ≡ Some l → HasUnknowns count l.factors
-over-at count f over a l is = subst (λ (m : Form). HasUnknowns count m.factors) (get_or_from_slice_get f.atoms a l l is) (over a l (slice_get_within f.atoms a l is))
+over-at : (count : ℕ) (f : FormulaView) → IsOver count f → (a : ℕ) (l : LinView) → slice_get f.atoms a ≡ Some l → HasUnknowns count l.factors
+over-at count f over a l is = subst (λ (m : LinView). HasUnknowns count m.factors) (get_or_from_slice_get f.atoms a l l is) (over a l (slice_get_within f.atoms a l is))
 
-module _ (f : Statement) (p : Region) (x : ℕ → ℤ) (over : IsOver (length p.spans) f) (point : PointOf f p x) where
+module _ (f : FormulaView) (p : PartView) (x : ℕ → ℤ) (over : IsOver (length p.spans) f) (point : PointOf f p x) where
   fixed-sound : (a : ℕ) → Agrees (fixed f p a) (atom_at f.atoms x a)
   fixed-sound a = fixed-agrees p.spans x (slice_get f.atoms a) point.0 (over-at (length p.spans) f over a)
 
@@ -123,7 +124,7 @@ module _ (f : Statement) (p : Region) (x : ℕ → ℤ) (over : IsOver (length p
     ]
   ]
 
-module _ (f : Statement) (p : Region) (x : ℕ → ℤ) (over : IsOver (length p.spans) f) (area : InArea p.spans x) where
+module _ (f : FormulaView) (p : PartView) (x : ℕ → ℤ) (over : IsOver (length p.spans) f) (area : InArea p.spans x) where
   fixed-in : (a : ℕ) → Agrees (fixed f p a) (atom_at f.atoms x a)
   fixed-in a = fixed-agrees p.spans x (slice_get f.atoms a) area (over-at (length p.spans) f over a)
 
@@ -157,10 +158,10 @@ all-range q from (suc n) e a low high = elim (cases_Bool (q from)) [
   | inr isnt ↦ cc (rw isnt at e)
 ]
 
-past-none : (f : Statement) (p : Region) (a : ℕ) → length p.decided ≡ length f.atoms → length f.atoms ≤ a → agrees (decision p a) (fixed f p a) ≡ true
+past-none : (f : FormulaView) (p : PartView) (a : ℕ) → length p.decided ≡ length f.atoms → length f.atoms ≤ a → agrees (decision p a) (fixed f p a) ≡ true
 past-none f p a same past = ap (λ (o : Option (Option Bool)). agrees (unwrap_or o None) (fixed f p a)) (slice_get_past p.decided a (omega (arith, same, past)))
 
-pub yes-point : (f : Statement) (p : Region) (x : ℕ → ℤ) → IsOver (length p.spans) f → length p.decided ≡ length f.atoms → InArea p.spans x → truth_of f p ≡ Yes → Satisfies f x
+pub yes-point : (f : FormulaView) (p : PartView) (x : ℕ → ℤ) → IsOver (length p.spans) f → length p.decided ≡ length f.atoms → InArea p.spans x → truth_of f p ≡ Yes → Satisfies f x
 yes-point f p x over same area e =
     let (root, all) = both-true (is_yes (value_of (atom_value f p) f.root)) (list_all (λ a. agrees (decision p a) (fixed f p a)) (atoms_of f)) (yes-answer f p x over area (is_no (value_of (atom_value f p) f.root)) (list_any (is_against f p) (atoms_of f)) (list_any (is_forced_both f p) (atoms_of f)) _ e) in
     satisfied f p x over area (λ a. elim (cases_Bool (nat_lt a (length f.atoms))) [

@@ -3,12 +3,13 @@ use Rattle.std.proofs.Common.{◌≡◌, ◌∙◌, sym, ap, subst, refl, ℕ, �
 use Rattle.std.specs.Prelude.{int_le, nat_le, unsigned_abs}
 use Rattle.std.specs.List.{list_all, list_any, flat_map}
 use Rattle.std.proofs.lemmas.List.Folds.{list_all-map}
+use Rattle.ft_linear.specs.Bounds.{moderate_most}
 use Rattle.ft_linear.specs.declared.node.Node.{Node}
 use Rattle.ft_linear.specs.declared.node.Node.TheVariants as node
 use Rattle.ft_linear.specs.declared.node.Raw.{Raw, Raw-F, map-Raw, fold-Raw, roll-Raw, fold-roll-Raw, ind-Raw}
 use Rattle.ft_linear.specs.declared.node.Raw.TheOpen as layer
 use Rattle.ft_linear.specs.declared.node.Raw.TheVariants.{Le, Not, And, Or, rolls-Le, rolls-Not, rolls-And, rolls-Or}
-use Rattle.ft_linear.specs.Form.{Form, form_at}
+use Rattle.ft_linear.specs.Form.{LinView, form_at}
 use Rattle.ft_linear.specs.Truth.{itself}
 use Rattle.ft_linear.specs.Canonical.{raw_truth, layer_raw_truth, is_moderate, layer_moderate, all_begin_well, layer_begins, begins_well, forms_of, layer_atoms, atoms_in, placed, layer_placed, placed_form}
 use Rattle.ft_linear.proofs.NodeLemmas.{list_any-map}
@@ -21,7 +22,7 @@ abbrev pub bare_raw : {P : Raw → Type 0} → List (WithRaw P) → List Raw
 bare_raw ns = map (λ e. e.0) ns
 
 pub record InductiveRaw (P : Raw → Type 0) : Type 0 where
-  pub form : (l : Form) → P (Le l)
+  pub form : (l : LinView) → P (Le l)
   pub negated : (inner : Raw) → P inner → P (Not inner)
   pub all : (parts : List (WithRaw P)) → P (And (bare_raw parts))
   pub any : (parts : List (WithRaw P)) → P (Or (bare_raw parts))
@@ -40,7 +41,7 @@ folds : (A : Type 0) (step : Raw-F A → A) (raw : Raw) (a_layer : Raw-F Raw) �
 folds A step raw a_layer is = ap (fold-Raw A step) (sym is) ∙ fold-roll-Raw A step a_layer
 
 module _ (x : ℕ → ℤ) where
-  pub raw-Le : (l : Form) → raw_truth x (Le l) ≡ int_le (form_at x l) (pos 0)
+  pub raw-Le : (l : LinView) → raw_truth x (Le l) ≡ int_le (form_at x l) (pos 0)
   unfolding raw_truth
   raw-Le l = folds Bool (layer_raw_truth x) _ (layer.Le l) (rolls-Le l)
 
@@ -56,7 +57,7 @@ module _ (x : ℕ → ℤ) where
   unfolding raw_truth
   raw-Or parts = folds Bool (layer_raw_truth x) _ (layer.Or parts) (rolls-Or parts) ∙ list_any-map itself (raw_truth x) parts
 
-pub moderate-Le : (l : Form) → is_moderate (Le l) ≡ nat_le (unsigned_abs l.constant) 3000000000000000
+pub moderate-Le : (l : LinView) → is_moderate (Le l) ≡ nat_le (unsigned_abs l.constant) moderate_most
 unfolding is_moderate
 moderate-Le l = folds Bool layer_moderate _ (layer.Le l) (rolls-Le l)
 
@@ -72,7 +73,7 @@ pub moderate-Or : (parts : List Raw) → is_moderate (Or parts) ≡ list_all is_
 unfolding is_moderate
 moderate-Or parts = folds Bool layer_moderate _ (layer.Or parts) (rolls-Or parts) ∙ list_all-map itself is_moderate parts
 
-pub begins-Le : (l : Form) → all_begin_well (Le l) ≡ begins_well l.factors
+pub begins-Le : (l : LinView) → all_begin_well (Le l) ≡ begins_well l.factors
 unfolding all_begin_well
 begins-Le l = folds Bool layer_begins _ (layer.Le l) (rolls-Le l)
 
@@ -92,24 +93,24 @@ flat-map : {X Y : Type 0} (f : X → List Y) (xs : List X) → flat_map (λ ys. 
 flat-map f [] = refl
 flat-map f (x ∷ xs) = ap (λ ys. f x ++ ys) (flat-map f xs)
 
-pub forms-Le : (l : Form) → forms_of (Le l) ≡ atoms_in l l.factors
+pub forms-Le : (l : LinView) → forms_of (Le l) ≡ atoms_in l l.factors
 unfolding forms_of
-forms-Le l = folds (List Form) layer_atoms _ (layer.Le l) (rolls-Le l)
+forms-Le l = folds (List LinView) layer_atoms _ (layer.Le l) (rolls-Le l)
 
 pub forms-Not : (inner : Raw) → forms_of (Not inner) ≡ forms_of inner
 unfolding forms_of
-forms-Not inner = folds (List Form) layer_atoms _ (layer.Not inner) (rolls-Not inner)
+forms-Not inner = folds (List LinView) layer_atoms _ (layer.Not inner) (rolls-Not inner)
 
 pub forms-And : (parts : List Raw) → forms_of (And parts) ≡ flat_map forms_of parts
 unfolding forms_of
-forms-And parts = folds (List Form) layer_atoms _ (layer.And parts) (rolls-And parts) ∙ flat-map forms_of parts
+forms-And parts = folds (List LinView) layer_atoms _ (layer.And parts) (rolls-And parts) ∙ flat-map forms_of parts
 
 pub forms-Or : (parts : List Raw) → forms_of (Or parts) ≡ flat_map forms_of parts
 unfolding forms_of
-forms-Or parts = folds (List Form) layer_atoms _ (layer.Or parts) (rolls-Or parts) ∙ flat-map forms_of parts
+forms-Or parts = folds (List LinView) layer_atoms _ (layer.Or parts) (rolls-Or parts) ∙ flat-map forms_of parts
 
-module _ (forms : List Form) where
-  pub placed-Le : (l : Form) → placed forms (Le l) ≡ placed_form forms l l.factors
+module _ (forms : List LinView) where
+  pub placed-Le : (l : LinView) → placed forms (Le l) ≡ placed_form forms l l.factors
   unfolding placed
   placed-Le l = folds Node (layer_placed forms) _ (layer.Le l) (rolls-Le l)
 

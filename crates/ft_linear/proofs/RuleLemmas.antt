@@ -13,14 +13,15 @@ use Rattle.ft_base.specs.Interval.{IsWithin}
 use Rattle.ft_base.specs.Division.{floor_of}
 use Rattle.ft_linear.specs.declared.lines.Line.{Line}
 use Rattle.ft_linear.specs.declared.lines.Line.TheVariants.{Atom, Upper, Lower}
-use Rattle.ft_linear.specs.Form.{Factor, Form, AreRising, InArea, sum_at, form_at, span_at}
-use Rattle.ft_linear.specs.Formula.{Statement, form_truth}
-use Rattle.ft_linear.specs.Part.{Region, forced}
+use Rattle.ft_linear.specs.Form.{Factor, LinView, AreRising, InArea, sum_at, form_at, span_at}
+use Rattle.ft_linear.specs.Formula.{FormulaView, form_truth}
+use Rattle.ft_linear.specs.Part.{PartView, forced}
 use Rattle.ft_linear.specs.Rules.{Contradicts, HoldsForced, Tightens, is_line, is_multiplier, line_form, literal_form, upper_form, lower_form, times_of, factor_of, factors_in, constant_in, total_factor, total_constant, narrowed, up_to, down_to}
 use Rattle.ft_linear.specs.Cancelling.{is_kept, is_cancelled, are_cancelled}
 use Rattle.ft_linear.proofs.Whole.{times-up, mul-add, neg-mul, mul-neg, under-floor}
 use Rattle.ft_linear.proofs.ForcedLaws.{both-true, eq-nat}
 use Rattle.ft_linear.proofs.UnknownLemmas.{scaled, cancels, alone, sum-append, sum-scaled, times-none, equal-to-itself, not-equal, factor_of-append, factor_of-scaled, factor_of-turned, sum-turned}
+use Rattle.ft_linear.proofs.Basics.{is-zero}
 
 -- an unknown below those of a form has the factor 0, and the first factor of an unknown is its only one
 none-below : (from u : ℕ) (fs : List Factor) → AreRising from fs → u < from → factor_of u fs ≡ pos 0
@@ -60,7 +61,7 @@ narrowed-down g c s below =
     so : (g : ℤ) → g <ℤ pos 0 → int_lt g (pos 0) ≡ true
     so g h = grind (arith, ints)
 
-module _ (f : Statement) (p : Region) where
+module _ (f : FormulaView) (p : PartView) where
   factor-push : (u : ℕ) (ls : List Line) (l : Line) → total_factor f p u (ls ++ l ∷ []) ≡ total_factor f p u ls +ℤ (pos (times_of l) *ℤ factor_of u (factors_in (line_form f p l)))
   factor-push u [] l = omega (arith, ints)
   factor-push u (m ∷ ls) l = let r = factor-push u ls l in omega (arith, ints, r)
@@ -127,9 +128,6 @@ module _ (f : Statement) (p : Region) where
     of-lines h (l ∷ ls) = ap (λ b. b && list_all (λ l. list_all (λ (g : Factor). q g.0) (factors_in (line_form f p l))) ls) (of-factors h (factors_in (line_form f p l))) ∙ of-lines h ls
 
   module _ (ls : List Line) (kept : Option ℕ) where
-    is-zero : (z : ℤ) → int_eq z (pos 0) ≡ true → z ≡ pos 0
-    is-zero z e = grind (arith, ints)
-
     zero-is : (z : ℤ) → z ≡ pos 0 → int_eq z (pos 0) ≡ true
     zero-is z e = ap (λ (y : ℤ). int_eq y (pos 0)) e
 
@@ -155,7 +153,7 @@ module _ (f : Statement) (p : Region) where
   lines-cancelled ls kept h l = of-factors (is_cancelled f p ls kept) (cancelled ls kept h) (factors_in (line_form f p l))
 
   module _ (x : ℕ → ℤ) (area : InArea p.spans x) (holds : HoldsForced f p x) where
-    literal-holds : (value : Bool) (o : Option Form) → form_truth x o ≡ value → (sum_at x (factors_in (option_map (literal_form value) o)) +ℤ constant_in (option_map (literal_form value) o)) ≤ℤ pos 0
+    literal-holds : (value : Bool) (o : Option LinView) → form_truth x o ≡ value → (sum_at x (factors_in (option_map (literal_form value) o)) +ℤ constant_in (option_map (literal_form value) o)) ≤ℤ pos 0
     literal-holds value None e = omega (arith, ints)
     literal-holds true (Some l) e = at-most-zero (form_at x l) e
       where
@@ -235,13 +233,13 @@ module _ (f : Statement) (p : Region) where
     within-tightened u ls t within h = narrow-within (total_factor f p u ls) (total_constant f p ls) (x u) (span_at p.spans u) t within (one-left u ls h.alone) h.narrows
 
 -- what is read of a literal's line
-module _ (f : Statement) (p : Region) (number : ℕ) (value : Bool) (times : ℕ) (l : Form) (line : Line) (is : line ≡ Atom number value times) (takes : is_line f p line ≡ true)
-    (atoms : List Form) (same : atoms ≡ f.atoms) (item : l ≡ slice_index_or atoms number l) where
+module _ (f : FormulaView) (p : PartView) (number : ℕ) (value : Bool) (times : ℕ) (l : LinView) (line : Line) (is : line ≡ Atom number value times) (takes : is_line f p line ≡ true)
+    (atoms : List LinView) (same : atoms ≡ f.atoms) (item : l ≡ slice_index_or atoms number l) where
   some-form : is_some (cond (forced f p number value) (option_map (literal_form value) (slice_get f.atoms number)) None) ≡ true
   some-form = (both-true (is_multiplier times) (is_some (line_form f p (Atom number value times))) (ap (is_line f p) (sym is) ∙ takes)).1
 
-  never : (b : Bool) (o : Option Form) → o ≡ None → is_some (cond b (option_map (literal_form value) o) None) ≡ true → ⊥
-  never true o e some = cc (sym some ∙ ap (λ (o : Option Form). is_some (option_map (literal_form value) o)) e)
+  never : (b : Bool) (o : Option LinView) → o ≡ None → is_some (cond b (option_map (literal_form value) o) None) ≡ true → ⊥
+  never true o e some = cc (sym some ∙ ap (λ (o : Option LinView). is_some (option_map (literal_form value) o)) e)
   never false o e some = cc some
 
   there : number < length f.atoms
@@ -251,9 +249,9 @@ module _ (f : Statement) (p : Region) (number : ℕ) (value : Bool) (times : ℕ
   ]
 
   got : slice_get f.atoms number ≡ Some l
-  got = slice_get_read f.atoms (length f.atoms) number l refl there (item ∙ ap (λ (xs : List Form). slice_index_or xs number l) same)
+  got = slice_get_read f.atoms (length f.atoms) number l refl there (item ∙ ap (λ (xs : List LinView). slice_index_or xs number l) same)
 
-  is-form : (b : Bool) (o : Option Form) → is_some (cond b (option_map (literal_form value) o) None) ≡ true → o ≡ Some l → cond b (option_map (literal_form value) o) None ≡ Some (literal_form value l)
+  is-form : (b : Bool) (o : Option LinView) → is_some (cond b (option_map (literal_form value) o) None) ≡ true → o ≡ Some l → cond b (option_map (literal_form value) o) None ≡ Some (literal_form value l)
   is-form true o some e = ap (option_map (literal_form value)) e
   is-form false o some e = cc some
 
@@ -265,14 +263,14 @@ module _ (f : Statement) (p : Region) (number : ℕ) (value : Bool) (times : ℕ
   by-sign false u = sym (factor_of-turned u l.factors)
 
   pub literal-factor : (u : ℕ) → cond value (factor_of u l.factors) (neg_ℤ (factor_of u l.factors)) ≡ factor_of u (factors_in (line_form f p line))
-  literal-factor u = by-sign value u ∙ sym (ap (λ (o : Option Form). factor_of u (factors_in o)) form-is)
+  literal-factor u = by-sign value u ∙ sym (ap (λ (o : Option LinView). factor_of u (factors_in o)) form-is)
 
   same-unknowns : (value : Bool) (q : ℕ → Bool) → list_all (λ (g : Factor). q g.0) l.factors ≡ list_all (λ (g : Factor). q g.0) (literal_form value l).factors
   same-unknowns true q = refl
   same-unknowns false q = sym (list_all-map (λ (g : Factor). q g.0) (λ (g : Factor). (g.0, neg_ℤ g.1)) l.factors)
 
   pub literal-cancelled : (ls : List Line) (kept : Option ℕ) → are_cancelled f p ls kept l.factors ≡ are_cancelled f p ls kept (factors_in (line_form f p line))
-  literal-cancelled ls kept = same-unknowns value (is_cancelled f p ls kept) ∙ sym (ap (λ (o : Option Form). are_cancelled f p ls kept (factors_in o)) form-is)
+  literal-cancelled ls kept = same-unknowns value (is_cancelled f p ls kept) ∙ sym (ap (λ (o : Option LinView). are_cancelled f p ls kept (factors_in o)) form-is)
 
 pub IfSome_each : {X : Type 0} (r : Option X) {P : X → Type 0} → ((x : X) → r ≡ Some x → P x) → IfSome r P
 IfSome_each None h = tt

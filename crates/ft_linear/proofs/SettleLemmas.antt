@@ -14,7 +14,7 @@ use Rattle.ft_linear.specs.declared.node.Node.{Node}
 use Rattle.ft_linear.specs.declared.node.Node.TheVariants as node
 use Rattle.ft_linear.specs.declared.node.Raw.{Raw}
 use Rattle.ft_linear.specs.declared.node.Raw.TheVariants.{Le, Not, And, Or}
-use Rattle.ft_linear.specs.Form.{Factor, Form, form_at, sum_at}
+use Rattle.ft_linear.specs.Form.{Factor, LinView, form_at, sum_at}
 use Rattle.ft_linear.specs.Truth.{truth}
 use Rattle.ft_linear.specs.Formula.{atoms_below, atom_at, form_truth}
 use Rattle.ft_linear.specs.Canonical.{same_factor, same_form, with_form, with_forms, atoms_in, canonical, forms_of, all_begin_well, begins_well, place_of, placed, placed_form, raw_truth, is_positive}
@@ -22,6 +22,7 @@ use Rattle.ft_linear.proofs.ForcedLaws.{both-true, eq-nat}
 use Rattle.ft_linear.proofs.NodeLemmas.{list_any-map, truth-At, truth-Not, truth-And, truth-Or, below-At, below-Not, below-And, below-Or}
 use Rattle.ft_linear.proofs.CanonicalLemmas.{canonical-same}
 use Rattle.ft_linear.proofs.RawLemmas.{WithRaw, bare_raw, InductiveRaw, raw_induction, raw-Le, raw-Not, raw-And, raw-Or, begins-Le, begins-Not, begins-And, begins-Or, forms-Le, forms-Not, forms-And, forms-Or, placed-Le, placed-Not, placed-And, placed-Or}
+use Rattle.ft_linear.proofs.Basics.{or-none, or-assoc}
 
 same-int : (a b : ℤ) → int_eq a b ≡ true → a ≡ b
 same-int a b e = grind (arith, ints)
@@ -48,90 +49,82 @@ same-factors (f ∷ fs) (g ∷ gs) e =
     let (u, z) = both-true (nat_eq f.0 g.0) (int_eq f.1 g.1) here in
     λ i. (eq-nat f.0 g.0 u i, same-int f.1 g.1 z i) ∷ same-factors fs gs rest i
 
-form-itself : (l : Form) → same_form l l ≡ true
+form-itself : (l : LinView) → same_form l l ≡ true
 form-itself l = ap (λ b. b && pointwise same_factor l.factors l.factors) (int-itself l.constant) ∙ factors-itself l.factors
 
-same-forms : (l m : Form) → same_form l m ≡ true → l ≡ m
+same-forms : (l m : LinView) → same_form l m ≡ true → l ≡ m
 same-forms l m e =
     let (c, fs) = both-true (int_eq l.constant m.constant) (pointwise same_factor l.factors m.factors) e in
     λ i. record { factors = same-factors l.factors m.factors fs i; constant = same-int l.constant m.constant c i }
 
 -- the place of a form that is there
-finds : (l : Form) (forms : List Form) → list_any (same_form l) forms ≡ true → find (same_form l) forms ≡ Some l
+finds : (l : LinView) (forms : List LinView) → list_any (same_form l) forms ≡ true → find (same_form l) forms ≡ Some l
 finds l [] e = cc e
 finds l (m ∷ forms) e = elim (cases_Bool (same_form l m)) [
   | inl so ↦ ap (λ b. cond b (Some m) (find (same_form l) forms)) so ∙ ap Some (sym (same-forms l m so))
   | inr isnt ↦ ap (λ b. cond b (Some m) (find (same_form l) forms)) isnt ∙ finds l forms (rw isnt at e)
 ]
 
-found-at : (l : Form) (forms : List Form) → list_any (same_form l) forms ≡ true → slice_get forms (place_of forms l) ≡ Some l
+found-at : (l : LinView) (forms : List LinView) → list_any (same_form l) forms ≡ true → slice_get forms (place_of forms l) ≡ Some l
 found-at l forms e = sym (find_at (same_form l) forms) ∙ finds l forms e
 
-place-below : (l : Form) (forms : List Form) → list_any (same_form l) forms ≡ true → nat_lt (place_of forms l) (length forms) ≡ true
+place-below : (l : LinView) (forms : List LinView) → list_any (same_form l) forms ≡ true → nat_lt (place_of forms l) (length forms) ≡ true
 place-below l forms e = let h = slice_get_within forms (place_of forms l) l (found-at l forms e) in test (place_of forms l) (length forms) h
   where
     test : (a b : ℕ) → a < b → nat_lt a b ≡ true
     test a b h = grind (arith, h)
 
-any-append : (q : Form → Bool) (xs : List Form) (y : Form) → list_any q (xs ++ y ∷ []) ≡ (list_any q xs || q y)
+any-append : (q : LinView → Bool) (xs : List LinView) (y : LinView) → list_any q (xs ++ y ∷ []) ≡ (list_any q xs || q y)
 any-append q [] y = or-none (q y)
-  where
-    or-none : (b : Bool) → (b || false) ≡ b
-    or-none true = refl
-    or-none false = refl
 any-append q (x ∷ xs) y = ap (λ b. q x || b) (any-append q xs y) ∙ sym (or-assoc (q x) (list_any q xs) (q y))
-  where
-    or-assoc : (a b c : Bool) → ((a || b) || c) ≡ (a || (b || c))
-    or-assoc true b c = refl
-    or-assoc false b c = refl
 
-kept : (q : Form → Bool) (forms : List Form) (l : Form) → list_any q forms ≡ true → list_any q (with_form forms l) ≡ true
+kept : (q : LinView → Bool) (forms : List LinView) (l : LinView) → list_any q forms ≡ true → list_any q (with_form forms l) ≡ true
 kept q forms l e = elim (cases_Bool (list_any (same_form l) forms)) [
   | inl so ↦ ap (λ b. list_any q (cond b forms (forms ++ l ∷ []))) so ∙ e
   | inr isnt ↦ ap (λ b. list_any q (cond b forms (forms ++ l ∷ []))) isnt ∙ any-append q forms l ∙ ap (λ b. b || q l) e
 ]
 
-all-kept : (q : Form → Bool) (forms ls : List Form) → list_any q forms ≡ true → list_any q (with_forms forms ls) ≡ true
+all-kept : (q : LinView → Bool) (forms ls : List LinView) → list_any q forms ≡ true → list_any q (with_forms forms ls) ≡ true
 all-kept q forms [] e = e
 all-kept q forms (l ∷ ls) e = all-kept q (with_form forms l) ls (kept q forms l e)
 
-there : (forms : List Form) (l : Form) → list_any (same_form l) (with_form forms l) ≡ true
+there : (forms : List LinView) (l : LinView) → list_any (same_form l) (with_form forms l) ≡ true
 there forms l = elim (cases_Bool (list_any (same_form l) forms)) [
   | inl so ↦ ap (λ b. list_any (same_form l) (cond b forms (forms ++ l ∷ []))) so ∙ so
   | inr isnt ↦ ap (λ b. list_any (same_form l) (cond b forms (forms ++ l ∷ []))) isnt ∙ any-append (same_form l) forms l ∙ ap (λ b. b || same_form l l) isnt ∙ form-itself l
 ]
 
 -- each of these forms is among those
-abbrev pub Has : List Form → List Form → Type 0
+abbrev pub Has : List LinView → List LinView → Type 0
 Has forms ls = list_all (λ l. list_any (same_form l) forms) ls ≡ true
 
-pub has-all : (forms ls : List Form) → Has (with_forms forms ls) ls
+pub has-all : (forms ls : List LinView) → Has (with_forms forms ls) ls
 has-all forms [] = refl
 has-all forms (l ∷ ls) =
     ap (λ b. b && list_all (λ m. list_any (same_form m) (with_forms (with_form forms l) ls)) ls) (all-kept (same_form l) (with_form forms l) ls (there forms l))
     ∙ has-all (with_form forms l) ls
 
-forms-append : (forms xs ys : List Form) → with_forms forms (xs ++ ys) ≡ with_forms (with_forms forms xs) ys
+forms-append : (forms xs ys : List LinView) → with_forms forms (xs ++ ys) ≡ with_forms (with_forms forms xs) ys
 forms-append forms [] ys = refl
 forms-append forms (x ∷ xs) ys = forms-append (with_form forms x) xs ys
 
 -- the forms of one part more
-pub forms-more : (forms mid now : List Form) (parts : List Raw) (i : ℕ) (part : Raw) → i < length parts → part ≡ slice_index_or parts i part
+pub forms-more : (forms mid now : List LinView) (parts : List Raw) (i : ℕ) (part : Raw) → i < length parts → part ≡ slice_index_or parts i part
     → mid ≡ with_forms forms (flat_map forms_of (take i parts)) → now ≡ with_forms mid (forms_of part) → now ≡ with_forms forms (flat_map forms_of (take (i + 1) parts))
 forms-more forms mid now parts i part within is before here =
-    here ∙ ap (λ (l : List Form). with_forms l (forms_of part)) before ∙ sym (forms-append forms (flat_map forms_of (take i parts)) (forms_of part))
+    here ∙ ap (λ (l : List LinView). with_forms l (forms_of part)) before ∙ sym (forms-append forms (flat_map forms_of (take i parts)) (forms_of part))
     ∙ ap (with_forms forms) (sym more)
   where
     more : flat_map forms_of (take (i + 1) parts) ≡ flat_map forms_of (take i parts) ++ forms_of part
     more = ap (flat_map forms_of) (take_more parts i part within ∙ ap (λ (p : Raw). take i parts ++ p ∷ []) (sym is)) ∙ flat_map-append forms_of (take i parts) (part ∷ [])
-        ∙ ap (λ (l : List Form). flat_map forms_of (take i parts) ++ l) (append-nil (forms_of part))
+        ∙ ap (λ (l : List LinView). flat_map forms_of (take i parts) ++ l) (append-nil (forms_of part))
 
 pub begins-more : (parts : List Raw) (i : ℕ) (part : Raw) → i < length parts → part ≡ slice_index_or parts i part
     → list_all all_begin_well (take i parts) ≡ true → all_begin_well part ≡ true → list_all all_begin_well (take (i + 1) parts) ≡ true
 begins-more parts i part within is before here =
     list_all_more all_begin_well parts i part within ∙ ap (λ b. b && all_begin_well (slice_index_or parts i part)) before ∙ ap all_begin_well (sym is) ∙ here
 
-all-append : (q : Form → Bool) (xs ys : List Form) → list_all q (xs ++ ys) ≡ (list_all q xs && list_all q ys)
+all-append : (q : LinView → Bool) (xs ys : List LinView) → list_all q (xs ++ ys) ≡ (list_all q xs && list_all q ys)
 all-append q [] ys = refl
 all-append q (x ∷ xs) ys = ap (λ b. q x && b) (all-append q xs ys) ∙ sym (and-assoc (q x) (list_all q xs) (list_all q ys))
   where
@@ -139,13 +132,13 @@ all-append q (x ∷ xs) ys = ap (λ b. q x && b) (all-append q xs ys) ∙ sym (a
     and-assoc true b c = refl
     and-assoc false b c = refl
 
-module _ (forms : List Form) (x : ℕ → ℤ) where
+module _ (forms : List LinView) (x : ℕ → ℤ) where
   -- a placed node has only atoms that are there, and the truth of what it is made of
   pub record IsPlaced (whole : Node) (so : Bool) : Type 0 where
     pub below : atoms_below (length forms) whole ≡ true
     pub same : truth (atom_at forms x) whole ≡ so
 
-  atom-placed : (l : Form) → list_any (same_form l) forms ≡ true → IsPlaced (node.At (place_of forms l)) (int_le (form_at x l) (pos 0))
+  atom-placed : (l : LinView) → list_any (same_form l) forms ≡ true → IsPlaced (node.At (place_of forms l)) (int_le (form_at x l) (pos 0))
   atom-placed l e = record {
     below = below-At (length forms) (place_of forms l) ∙ place-below l forms e;
     same = truth-At (atom_at forms x) (place_of forms l) ∙ ap (form_truth x) (found-at l forms e);
@@ -164,7 +157,7 @@ module _ (forms : List Form) (x : ℕ → ℤ) where
       either true = record { below = below-And (length forms) []; same = truth-And (atom_at forms x) [] }
       either false = record { below = below-Or (length forms) []; same = truth-Or (atom_at forms x) [] }
 
-  form-placed : (l : Form) (fs : List Factor) → l.factors ≡ fs → Has forms (atoms_in l fs) → begins_well fs ≡ true → IsPlaced (placed_form forms l fs) (int_le (form_at x l) (pos 0))
+  form-placed : (l : LinView) (fs : List Factor) → l.factors ≡ fs → Has forms (atoms_in l fs) → begins_well fs ≡ true → IsPlaced (placed_form forms l fs) (int_le (form_at x l) (pos 0))
   form-placed l [] is has well = constant-placed l.constant (form_at x l) (ap (λ (fs : List Factor). sum_at x fs +ℤ l.constant) is ∙ nothing l.constant)
     where
       nothing : (z : ℤ) → pos 0 +ℤ z ≡ z

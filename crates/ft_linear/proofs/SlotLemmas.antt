@@ -16,10 +16,12 @@ use Rattle.ft_base.specs.declared.three.Three.{Three}
 use Rattle.ft_base.specs.declared.three.Three.TheVariants.{No, Maybe, Yes}
 use Rattle.ft_linear.specs.declared.forcing.Slot.{Slot}
 use Rattle.ft_linear.specs.declared.forcing.Signs.{Signs}
-use Rattle.ft_linear.specs.Forced.{value_of, three_not, three_all, three_any, can_be, is_no, is_yes}
-use Rattle.ft_linear.specs.Slots.{Marked, marked, layer_slots, slots_of, only_of, all_by, any_by, IsWritten, Adds, with_more}
+use Rattle.ft_linear.specs.Forced.{value_of}
+use Rattle.ft_base.specs.Three.{three_not, three_all, three_any, can_be, is_no, is_yes, all_by, any_by}
+use Rattle.ft_linear.specs.Slots.{Marked, marked, layer_slots, slots_of, only_of, IsWritten, Adds, with_more}
 use Rattle.ft_linear.proofs.NodeLemmas.{With, bare, node_induction, folds, value-At, value-Not, value-And, value-Or}
 use Rattle.ft_linear.proofs.ForcedLaws.{count-cons, count-yes, count-no}
+use Rattle.ft_linear.proofs.Basics.{or-none, or-assoc}
 
 above-zero : (n : ℕ) → true ≡ nat_lt 0 (suc n)
 above-zero n = grind arith
@@ -233,14 +235,6 @@ count-more p f parts i part within is =
     go : (ps : List Node) → count_by p (map f (ps ++ part ∷ [])) ≡ count_by p (map f ps) + cond (p (f part)) 1 0
     go [] = refl
     go (q ∷ ps) = let a = count-cons p (f q) (map f (ps ++ part ∷ [])) in let b = count-cons p (f q) (map f ps) in let r = go ps in omega (arith, a, b, r)
-
-or-none : (b : Bool) → (b || false) ≡ b
-or-none true = refl
-or-none false = refl
-
-or-assoc : (a b c : Bool) → ((a || b) || c) ≡ (a || (b || c))
-or-assoc true b c = refl
-or-assoc false b c = refl
 
 adds-nothing : (o : Option Signs) → o ≡ option_map (with_more false false) o
 adds-nothing None = refl

@@ -8,6 +8,7 @@ use Rattle.ft_linear.specs.Form.{Factor, sum_at}
 use Rattle.ft_linear.specs.Rules.{factor_of}
 use Rattle.ft_linear.proofs.Whole.{add-mul, mul-add, neg-mul}
 use Rattle.ft_linear.proofs.ForcedLaws.{eq-nat}
+use Rattle.ft_linear.proofs.Basics.{opposites}
 
 abbrev pub scaled : ℕ → List Factor → List Factor
 scaled t [] = []
@@ -99,15 +100,12 @@ pub alone : (x : ℕ → ℤ) (u : ℕ) (fs : List Factor) → ((v : ℕ) → v 
 alone x u fs h =
     let g : ℤ = factor_of u fs in
     let all : (v : ℕ) → factor_of v ((u, neg_ℤ g) ∷ fs) ≡ pos 0 = λ v. elim (cases_Bool (nat_eq u v)) [
-      | inl so ↦ ap (λ (b : Bool). cond b (neg_ℤ g) (pos 0) +ℤ factor_of v fs) so ∙ ap (λ (w : ℕ). neg_ℤ g +ℤ factor_of w fs) (sym (eq-nat u v so)) ∙ none g
+      | inl so ↦ ap (λ (b : Bool). cond b (neg_ℤ g) (pos 0) +ℤ factor_of v fs) so ∙ ap (λ (w : ℕ). neg_ℤ g +ℤ factor_of w fs) (sym (eq-nat u v so)) ∙ opposites g
       | inr isnt ↦ ap (λ (b : Bool). cond b (neg_ℤ g) (pos 0) +ℤ factor_of v fs) isnt ∙ ap (λ (z : ℤ). pos 0 +ℤ z) (h v (λ same. cc (sym isnt ∙ ap (nat_eq u) same ∙ equal-to-itself u)))
     ] in
     let e = cancels x ((u, neg_ℤ g) ∷ fs) all in
     let n = neg-mul g (x u) in
     omega (arith, ints, e, n)
-  where
-    none : (g : ℤ) → neg_ℤ g +ℤ g ≡ pos 0
-    none g = omega (arith, ints)
 
 pub sum-append : (x : ℕ → ℤ) (fs gs : List Factor) → sum_at x (fs ++ gs) ≡ sum_at x fs +ℤ sum_at x gs
 sum-append x [] gs = omega (arith, ints)

@@ -4,17 +4,17 @@ use Rattle.std.specs.Ordering.{int_eq}
 use Rattle.std.specs.List.{list_all}
 use Rattle.ft_linear.specs.declared.lines.Line.{Line}
 use Rattle.ft_linear.specs.Form.{Factor}
-use Rattle.ft_linear.specs.Formula.{Statement}
-use Rattle.ft_linear.specs.Part.{Region}
+use Rattle.ft_linear.specs.Formula.{FormulaView}
+use Rattle.ft_linear.specs.Part.{PartView}
 use Rattle.ft_linear.specs.Rules.{total_factor}
 
 abbrev pub is_kept : Option ℕ → ℕ → Bool
 is_kept None u = false
 is_kept (Some kept) u = nat_eq u kept
 
-abbrev pub is_cancelled : Statement → Region → List Line → Option ℕ → ℕ → Bool
+abbrev pub is_cancelled : FormulaView → PartView → List Line → Option ℕ → ℕ → Bool
 is_cancelled f p ls kept u = is_kept kept u || int_eq (total_factor f p u ls) (pos 0)
 
 -- each unknown of these factors
-abbrev pub are_cancelled : Statement → Region → List Line → Option ℕ → List Factor → Bool
+abbrev pub are_cancelled : FormulaView → PartView → List Line → Option ℕ → List Factor → Bool
 are_cancelled f p ls kept fs = list_all (λ g. is_cancelled f p ls kept g.0) fs

@@ -4,33 +4,7 @@ use Rattle.std.specs.List.{list_all, list_any}
 use Rattle.ft_linear.specs.declared.node.Node.{Node, Node-F, fold-Node}
 use Rattle.ft_linear.specs.declared.node.Node.TheOpen as layer
 use Rattle.ft_base.specs.declared.three.Three.{Three}
-use Rattle.ft_base.specs.declared.three.Three.TheVariants.{No, Maybe, Yes}
-
-abbrev pub is_no : Three → Bool
-is_no No = true
-is_no Maybe = false
-is_no Yes = false
-
-abbrev pub is_yes : Three → Bool
-is_yes No = false
-is_yes Maybe = false
-is_yes Yes = true
-
-abbrev pub three_not : Three → Three
-three_not No = Yes
-three_not Maybe = Maybe
-three_not Yes = No
-
-abbrev pub three_all : List Three → Three
-three_all values = if list_any is_no values then No else if list_all is_yes values then Yes else Maybe
-
-abbrev pub three_any : List Three → Three
-three_any values = if list_any is_yes values then Yes else if list_all is_no values then No else Maybe
-
--- a node's value may still be what is wanted
-abbrev pub can_be : Bool → Three → Bool
-can_be true value = not (is_no value)
-can_be false value = not (is_yes value)
+use Rattle.ft_base.specs.Three.{three_not, three_all, three_any, can_be}
 
 -- the literals that a node forces where it is required to be true or false: wanted truth, atom, sign
 abbrev pub Forcing : Type 0

@@ -1,18 +1,19 @@
 -- Whole linear forms: their values at points, and their least and greatest values over areas.
 use Rattle.std.specs.Prelude.{◌≡◌, ◌≢◌, ◌≤◌, ◌<◌, ◌+◌, ℕ, ℤ, pos, ◌+ℤ◌, ◌*ℤ◌, int_lt, List, [], ◌∷◌, Some, slice_get, slice_index_or, length, All, unsigned_abs, if◌then◌else◌}
 use Rattle.ft_base.specs.Interval.{IsWithin}
+use Rattle.ft_linear.specs.Bounds.{value_most}
 
 -- an unknown with its factor
 abbrev pub Factor : Type 0
 Factor = ℕ × ℤ
 
 -- the factors of a form by unknown, and its constant
-pub record Form : Type 0 where
+pub record LinView : Type 0 where
   pub factors : List (ℕ × ℤ)
   pub constant : ℤ
 
 abbrev pub IsSmall : ℤ → Type 0
-IsSmall z = unsigned_abs z ≤ 4000000000000000
+IsSmall z = unsigned_abs z ≤ value_most
 
 -- unknowns that rise strictly from this one on, none with the factor 0
 abbrev pub AreRising : ℕ → List Factor → Type 0
@@ -34,7 +35,7 @@ sum_at x [] = pos 0
 sum_at x (f ∷ fs) = (f.1 *ℤ x f.0) +ℤ sum_at x fs
 
 -- the value of a form at a point
-abbrev pub form_at : (ℕ → ℤ) → Form → ℤ
+abbrev pub form_at : (ℕ → ℤ) → LinView → ℤ
 form_at x l = sum_at x l.factors +ℤ l.constant
 
 -- each unknown is below this number

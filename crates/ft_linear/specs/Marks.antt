@@ -4,8 +4,8 @@ use Rattle.ft_base.specs.declared.three.Three.{Three}
 use Rattle.ft_linear.specs.declared.node.Node.{Node, Node-F, fold-Node}
 use Rattle.ft_linear.specs.declared.node.Node.TheOpen as layer
 use Rattle.ft_linear.specs.declared.forcing.Signs.{Signs}
-use Rattle.ft_linear.specs.Formula.{Statement, IsOver}
-use Rattle.ft_linear.specs.Part.{Region, atom_value, decision, forced, is_decision}
+use Rattle.ft_linear.specs.Formula.{FormulaView, IsOver}
+use Rattle.ft_linear.specs.Part.{PartView, atom_value, decision, forced, is_decision}
 
 -- the number of nodes of a tree
 abbrev pub layer_size : Node-F ℕ → ℕ
@@ -18,23 +18,23 @@ unfoldable pub size_of : Node → ℕ
 size_of = fold-Node ℕ layer_size
 
 -- the values and the forced literals of the atoms, and the number of nodes that there is room for
-pub record Findings : Type 0 where
+pub record MarksView : Type 0 where
   pub values : List Three
   pub signs : List Signs
   pub room : ℕ
 
 -- marks and a part for this formula
-pub record AreFor (f : Statement) (p : Region) (m : Findings) : Type 0 where
+pub record AreFor (f : FormulaView) (p : PartView) (m : MarksView) : Type 0 where
   pub decided : length p.decided ≡ length f.atoms
   pub values : length m.values ≡ length f.atoms
   pub signs : length m.signs ≡ length f.atoms
   pub room : m.room ≡ size_of f.root
 
-abbrev pub signs_of : Statement → Region → ℕ → Signs
+abbrev pub signs_of : FormulaView → PartView → ℕ → Signs
 signs_of f p a = record { yes = forced f p a true; no = forced f p a false }
 
 -- the marks hold the values and the forced literals of this part
-pub record AreJudged (f : Statement) (p : Region) (m : Findings) : Type 0 where
+pub record AreJudged (f : FormulaView) (p : PartView) (m : MarksView) : Type 0 where
   pub values : (a : ℕ) → a < length f.atoms → slice_get m.values a ≡ Some (atom_value f p a)
   pub signs : (a : ℕ) → a < length f.atoms → slice_get m.signs a ≡ Some (signs_of f p a)
 
@@ -47,7 +47,7 @@ abbrev pub literal_of : Signs → Option Bool
 literal_of signs = if signs.yes then Some true else if signs.no then Some false else None
 
 -- what the weighing of the atoms asks
-pub record CanWeigh (f : Statement) (p : Region) (values signs : ℕ) : Type 0 where
+pub record CanWeigh (f : FormulaView) (p : PartView) (values signs : ℕ) : Type 0 where
   pub over : IsOver (length p.spans) f
   pub decided : length p.decided ≡ length f.atoms
   pub values_all : values ≡ length f.atoms
@@ -56,5 +56,5 @@ pub record CanWeigh (f : Statement) (p : Region) (values signs : ℕ) : Type 0 w
 abbrev pub decided_signs : Option Bool → Signs
 decided_signs decision = record { yes = is_decision decision true; no = is_decision decision false }
 
-abbrev pub decided_at : Region → ℕ → Signs
+abbrev pub decided_at : PartView → ℕ → Signs
 decided_at p a = decided_signs (decision p a)

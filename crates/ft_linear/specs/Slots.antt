@@ -5,10 +5,10 @@ use Rattle.std.specs.Option.{option_map}
 use Rattle.ft_linear.specs.declared.node.Node.{Node, Node-F, fold-Node}
 use Rattle.ft_linear.specs.declared.node.Node.TheOpen as layer
 use Rattle.ft_base.specs.declared.three.Three.{Three}
-use Rattle.ft_base.specs.declared.three.Three.TheVariants.{No, Maybe, Yes}
+use Rattle.ft_base.specs.declared.three.Three.TheVariants.{Maybe}
 use Rattle.ft_linear.specs.declared.forcing.Slot.{Slot}
 use Rattle.ft_linear.specs.declared.forcing.Signs.{Signs}
-use Rattle.ft_linear.specs.Forced.{three_not, three_all, three_any, can_be}
+use Rattle.ft_base.specs.Three.{three_not, three_all, three_any, can_be}
 
 abbrev pub value_at : List Three → ℕ → Three
 value_at values atom = unwrap_or (slice_get values atom) Maybe
@@ -16,13 +16,6 @@ value_at values atom = unwrap_or (slice_get values atom) Maybe
 -- exactly one value can be as wanted
 abbrev pub only_of : Bool → List Three → Bool
 only_of want values = nat_eq (count_by (can_be want) values) 1
-
--- the values of nodes by the numbers of No, of Yes and of all among their parts
-abbrev pub all_by : ℕ → ℕ → ℕ → Three
-all_by no_count yes_count parts = if nat_lt 0 no_count then No else if nat_eq yes_count parts then Yes else Maybe
-
-abbrev pub any_by : ℕ → ℕ → ℕ → Three
-any_by no_count yes_count parts = if nat_lt 0 yes_count then Yes else if nat_eq no_count parts then No else Maybe
 
 -- a node's value, and the slots of its tree
 abbrev pub Marked : Type 0

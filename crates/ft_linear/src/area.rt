@@ -1,7 +1,7 @@
 use ft_base::{List, Span};
 
 /// The span of each unknown, by number.
-#[derive(Debug, Drop)]
+#[derive(Drop)]
 pub struct Area {
     /// The spans.
     pub spans: List<Span>,

@@ -3,6 +3,7 @@
 ghost use Rattle.std.specs.Prelude.{◌≡◌, ◌≤◌, ◌<◌, ◌↔◌, IsTrue, IfOk, ℕ, pos, neg_ℤ, ◌-ℤ◌, length, map, nat_le, unsigned_abs, true, if◌then◌else◌};
 ghost use Rattle.std.specs.Int.{IsGcd};
 ghost use Rattle.ft_base.specs.Division.{floor_of};
+ghost use Rattle.ft_linear.specs.Bounds.{moderate_most, value_most};
 ghost use Rattle.ft_linear.specs.Form.{AreRising, IsSmall};
 ghost use Rattle.ft_linear.specs.Canonical.{canonical, divided, gcd_of, is_positive, quotient_of, same_form};
 
@@ -11,6 +12,7 @@ use crate::lines::{signed, turned};
 use ft_base::{List, NoMemory};
 use std::alloc::Global;
 
+/// The greatest common divisor.
 fn gcd(first: u64, second: u64) -> u64
     ensures { IsGcd first second result }
 {
@@ -24,12 +26,13 @@ fn gcd(first: u64, second: u64) -> u64
     greater
 }
 
+/// The greatest common divisor of the factors.
 fn gcd_of(factors: &[(u32, i64)]) -> u64
     requires some { 0 < length factors.now }
     requires rising { AreRising 0 factors.now }
     ensures value { result ≡ gcd_of factors.now }
     ensures positive { 0 < result }
-    ensures small { result ≤ 4000000000000000 }
+    ensures small { result ≤ value_most }
 {
     let mut divisor = 0;
     for factor in factors {
@@ -55,27 +58,29 @@ pub fn same_form(first: &Lin, second: &Lin) -> bool
     first.constant() == second.constant() && first.factors() == second.factors()
 }
 
+/// A factor divided by a divisor of all.
 fn quotient(factor: i64, divisor: u64) -> i64
     requires factor { IsSmall factor }
     requires positive { 0 < divisor }
-    requires divisor { divisor ≤ 4000000000000000 }
+    requires divisor { divisor ≤ value_most }
     ensures value { result ≡ floor_of factor (pos divisor) }
     ensures small { IsSmall result }
 {
     factor.div_euclid(divisor as i64)
 }
 
+/// A constant divided, and rounded up.
 fn rounded_up(constant: i64, divisor: u64) -> i64
-    requires constant { unsigned_abs constant ≤ 3000000000000000 }
+    requires constant { unsigned_abs constant ≤ moderate_most }
     requires positive { 0 < divisor }
-    requires divisor { divisor ≤ 4000000000000000 }
+    requires divisor { divisor ≤ value_most }
     ensures value { result ≡ neg_ℤ (floor_of (neg_ℤ constant) (pos divisor)) }
-    ensures small { unsigned_abs result ≤ 3000000000000000 }
+    ensures small { unsigned_abs result ≤ moderate_most }
 {
     -(-constant).div_euclid(divisor as i64)
 }
 
-// The factors divided by a number, with their signs turned where the first is negative.
+/// The factors divided by a number, with their signs turned where the first is negative.
 fn canonical_factors(
     alloc: Global,
     factors: &[(u32, i64)],
@@ -84,7 +89,7 @@ fn canonical_factors(
 ) -> Result<List<(u32, i64)>, NoMemory>
     requires rising { AreRising 0 factors.now }
     requires positive { 0 < divisor }
-    requires divisor { divisor ≤ 4000000000000000 }
+    requires divisor { divisor ≤ value_most }
     ensures { IfOk result (λ list. list ≡ map (quotient_of positive divisor) factors.now) }
 {
     let mut list = List::new(alloc);
@@ -97,7 +102,7 @@ fn canonical_factors(
 /// The canonical form of a form's atom.
 pub fn canonical(alloc: Global, form: &Lin) -> Result<Lin, NoMemory>
     requires some { 0 < length form.now.factors }
-    requires moderate { nat_le (unsigned_abs form.now.constant) 3000000000000000 ≡ true }
+    requires moderate { nat_le (unsigned_abs form.now.constant) moderate_most ≡ true }
     ensures { IfOk result (λ atom. atom ≡ canonical form.now) }
 {
     let divisor = gcd_of(form.factors());

@@ -1,14 +1,15 @@
 // One pass up a formula's tree for the values of its nodes, and one pass down for its forced literals.
 ghost use Rattle.std.specs.Prelude.{◌≡◌, ◌≤◌, ◌+◌, ℕ, Bool, true, length, drop, take, List, nat_eq, ◌&&◌, ◌++◌, map, count_by, slice_get, option_map, ◌||◌, not, cond, slice_set, ◌-◌, Some};
 ghost use Rattle.std.specs.List.{flat_map, list_any};
-ghost use Rattle.ft_linear.specs.Forced.{forces, value_of, is_no, is_yes, can_be, parts_force, three_not, three_all, three_any, same_bool, by_each, by_only, seen};
-ghost use Rattle.ft_linear.specs.Slots.{value_at, slots_of, only_of, IsWritten, StartsWith, Adds, all_by, any_by, with_more};
+ghost use Rattle.ft_base.specs.Three.{is_no, is_yes, can_be, three_all, three_any};
+ghost use Rattle.ft_linear.specs.Forced.{forces, value_of, parts_force, same_bool, by_each, by_only, seen};
+ghost use Rattle.ft_linear.specs.Slots.{value_at, slots_of, only_of, IsWritten, StartsWith, Adds, with_more};
 
 use crate::node::Node;
 use ft_base::Three;
 
 /// What the pass up leaves at a node: its value, whether exactly one part can still be as an open node needs, and the number of slots of its tree.
-#[derive(Clone, Copy, Debug, Drop)]
+#[derive(Clone, Copy, Drop)]
 pub struct Slot {
     pub value: Three,
     pub only: bool,
@@ -25,7 +26,7 @@ impl Slot {
 }
 
 /// Whether an atom is forced true, and whether it is forced false.
-#[derive(Clone, Copy, Debug, Drop)]
+#[derive(Clone, Copy, Drop)]
 pub struct Signs {
     pub yes: bool,
     pub no: bool,
@@ -40,20 +41,21 @@ impl Signs {
 }
 
 /// Where a pass up stands after a tree: the next slot, and the tree's value.
-#[derive(Clone, Copy, Debug, Drop)]
-pub struct Lifted {
+#[derive(Clone, Copy, Drop)]
+pub struct Evaluated {
     pub next: usize,
     pub value: Three,
 }
 
 /// How many parts have the value No, and how many Yes.
-#[derive(Clone, Copy, Debug, Drop)]
-pub struct Tally {
+#[derive(Clone, Copy, Drop)]
+pub struct PartCounts {
     pub next: usize,
     pub no: usize,
     pub yes: usize,
 }
 
+/// The value of an atom.
 fn value(values: &[Three], atom: usize) -> Three
     ensures { result ≡ value_at values.now atom }
 {
@@ -64,71 +66,14 @@ fn value(values: &[Three], atom: usize) -> Three
     }
 }
 
-fn turned(value: Three) -> Three
-    ensures { result ≡ three_not value }
+/// One where it is true.
+fn count_of(is: bool) -> usize
+    ensures { result ≡ cond is 1 0 }
 {
-    match value {
-        Three::No => Three::Yes,
-        Three::Maybe => Three::Maybe,
-        Three::Yes => Three::No,
-    }
+    usize::from(is)
 }
 
-fn no_more(value: Three) -> usize
-    ensures { result ≡ cond (is_no value) 1 0 }
-{
-    match value {
-        Three::No => 1,
-        _ => 0,
-    }
-}
-
-fn yes_more(value: Three) -> usize
-    ensures { result ≡ cond (is_yes value) 1 0 }
-{
-    match value {
-        Three::Yes => 1,
-        _ => 0,
-    }
-}
-
-fn can(want: bool, value: Three) -> bool
-    ensures { result ≡ can_be want value }
-{
-    if want {
-        value != Three::No
-    } else {
-        value != Three::Yes
-    }
-}
-
-// The value of a node that is true where all of its parts are.
-fn of_all(no: usize, yes: usize, parts: usize) -> Three
-    ensures { result ≡ all_by no yes parts }
-{
-    if no > 0 {
-        Three::No
-    } else if yes == parts {
-        Three::Yes
-    } else {
-        Three::Maybe
-    }
-}
-
-// The value of a node that is true where one of its parts is.
-fn of_any(no: usize, yes: usize, parts: usize) -> Three
-    ensures { result ≡ any_by no yes parts }
-{
-    if yes > 0 {
-        Three::Yes
-    } else if no == parts {
-        Three::No
-    } else {
-        Three::Maybe
-    }
-}
-
-// Whether one part is left beside those that are settled.
+/// Whether one part is left beside those that are settled.
 fn one_left(settled: usize, parts: usize) -> bool
     requires { settled ≤ parts }
     ensures { result ≡ nat_eq (settled + 1) parts }
@@ -136,7 +81,8 @@ fn one_left(settled: usize, parts: usize) -> bool
     parts - settled == 1
 }
 
-fn put(slots: &mut [Slot], at: usize, next: usize, value: Three, only: bool) -> Lifted
+/// Writes the slot of a tree whose parts' slots end before `next`.
+fn put(slots: &mut [Slot], at: usize, next: usize, value: Three, only: bool) -> Evaluated
     requires within { at + 1 ≤ length slots.old }
     requires up { at + 1 ≤ next }
     ensures next { result.next ≡ next }
@@ -148,11 +94,12 @@ fn put(slots: &mut [Slot], at: usize, next: usize, value: Three, only: bool) -> 
         only,
         size: next - at,
     };
-    Lifted { next, value }
+    Evaluated { next, value }
 }
 
-#[cycle(lift)]
-fn lift_parts(parts: &[Node], values: &[Three], slots: &mut [Slot], at: usize) -> Tally
+/// The slots of some trees, from this place on, and how many of the trees have the value No and how many Yes.
+#[cycle(evaluate_up)]
+fn evaluate_parts(parts: &[Node], values: &[Three], slots: &mut [Slot], at: usize) -> PartCounts
     requires { at + length (flat_map (slots_of (value_at values.now)) parts.now) ≤ length slots.old }
     ensures written { IsWritten (flat_map (slots_of (value_at values.now)) parts.now) at result.next slots.old slots.new }
     ensures no { result.no ≡ count_by is_no (map (value_of (value_at values.now)) parts.now) }
@@ -162,16 +109,17 @@ fn lift_parts(parts: &[Node], values: &[Three], slots: &mut [Slot], at: usize) -
     let mut no = 0;
     let mut yes = 0;
     for part in parts {
-        let lifted = lift(part, values, slots, next);
-        next = lifted.next;
-        no += no_more(lifted.value);
-        yes += yes_more(lifted.value);
+        let evaluated = evaluate_up(part, values, slots, next);
+        next = evaluated.next;
+        no += count_of(evaluated.value.is_no());
+        yes += count_of(evaluated.value.is_yes());
     }
-    Tally { next, no, yes }
+    PartCounts { next, no, yes }
 }
 
-#[cycle(lift)]
-fn lift(node: &Node, values: &[Three], slots: &mut [Slot], at: usize) -> Lifted
+/// The slots of a tree, from this place on, and its value.
+#[cycle(evaluate_up)]
+fn evaluate_up(node: &Node, values: &[Three], slots: &mut [Slot], at: usize) -> Evaluated
     requires { at + length (slots_of (value_at values.now) node.now) ≤ length slots.old }
     ensures written { IsWritten (slots_of (value_at values.now) node.now) at result.next slots.old slots.new }
     ensures value { result.value ≡ value_of (value_at values.now) node.now }
@@ -182,34 +130,35 @@ fn lift(node: &Node, values: &[Three], slots: &mut [Slot], at: usize) -> Lifted
             put(slots, at, at + 1, value, false)
         }
         Node::Not(inner) => {
-            let lifted = lift(inner.get(), values, slots, at + 1);
-            put(slots, at, lifted.next, turned(lifted.value), false)
+            let evaluated = evaluate_up(inner.get(), values, slots, at + 1);
+            put(slots, at, evaluated.next, evaluated.value.not(), false)
         }
         Node::And(parts) => {
             let parts = parts.as_slice();
-            let tally = lift_parts(parts, values, slots, at + 1);
+            let counts = evaluate_parts(parts, values, slots, at + 1);
             put(
                 slots,
                 at,
-                tally.next,
-                of_all(tally.no, tally.yes, parts.len()),
-                one_left(tally.yes, parts.len()),
+                counts.next,
+                Three::all_of(counts.no, counts.yes, parts.len()),
+                one_left(counts.yes, parts.len()),
             )
         }
         Node::Or(parts) => {
             let parts = parts.as_slice();
-            let tally = lift_parts(parts, values, slots, at + 1);
+            let counts = evaluate_parts(parts, values, slots, at + 1);
             put(
                 slots,
                 at,
-                tally.next,
-                of_any(tally.no, tally.yes, parts.len()),
-                one_left(tally.no, parts.len()),
+                counts.next,
+                Three::any_of(counts.no, counts.yes, parts.len()),
+                one_left(counts.no, parts.len()),
             )
         }
     }
 }
 
+/// These signs with one more.
 fn joined(signs: Signs, sign: bool) -> Signs
     ensures { result ≡ with_more sign (not sign) signs }
 {
@@ -219,6 +168,7 @@ fn joined(signs: Signs, sign: bool) -> Signs
     }
 }
 
+/// Notes that a literal of an atom is forced.
 fn mark(signs: &mut [Signs], atom: usize, sign: bool)
     ensures { Adds (λ a s. nat_eq a atom && same_bool sign s) signs.old signs.new }
 {
@@ -227,39 +177,40 @@ fn mark(signs: &mut [Signs], atom: usize, sign: bool)
     }
 }
 
-// The slots below a tree's own.
-fn below(slots: &[Slot]) -> &[Slot]
+/// The slots below a tree's own.
+fn inner_slots(slots: &[Slot]) -> &[Slot]
     requires { 1 ≤ length slots.now }
     ensures { result.now ≡ drop 1 slots.now }
 {
     &slots[1..]
 }
 
-// The slot of a tree.
-fn own(slots: &[Slot]) -> Slot
+/// The slot of a tree.
+fn root_slot(slots: &[Slot]) -> Slot
     requires { 1 ≤ length slots.now }
     ensures { slice_get slots.now 0 ≡ Some result }
 {
     slots[0]
 }
 
-// The slots after the first tree.
-fn after(slots: &[Slot], size: usize) -> &[Slot]
+/// The slots after the first tree.
+fn slots_after(slots: &[Slot], size: usize) -> &[Slot]
     requires { size ≤ length slots.now }
     ensures { result.now ≡ drop size slots.now }
 {
     &slots[size..]
 }
 
-fn either(first: bool, second: bool) -> bool
+/// Whether a part is asked for: all are, or it alone can be as wanted.
+fn is_asked(first: bool, second: bool) -> bool
     ensures { result ≡ (first || second) }
 {
     first || second
 }
 
-// The literals that a tree forces, where it is asked for.
-#[cycle(lower)]
-fn lower_if(
+/// The literals that a tree forces, where it is asked for.
+#[cycle(force_down)]
+fn force_if(
     asked: bool,
     node: &Node,
     want: bool,
@@ -271,12 +222,13 @@ fn lower_if(
     ensures { Adds (λ a s. asked && forces (value_at values.now) node.now want a s) signs.old signs.new }
 {
     if asked {
-        lower(node, want, values, slots, signs);
+        force_down(node, want, values, slots, signs);
     }
 }
 
-#[cycle(lower)]
-fn lower_parts(
+/// The literals that some trees force: each of them, or those alone that can be as wanted.
+#[cycle(force_down)]
+fn force_parts(
     parts: &[Node],
     want: bool,
     each: bool,
@@ -289,37 +241,52 @@ fn lower_parts(
 {
     let mut rest = slots;
     for part in parts {
-        let first = own(rest);
-        lower_if(
-            either(each, can(want, first.value)),
+        let first = root_slot(rest);
+        force_if(
+            is_asked(each, first.value.can_be(want)),
             part,
             want,
             values,
             rest,
             signs,
         );
-        rest = after(rest, first.size);
+        rest = slots_after(rest, first.size);
     }
 }
 
-#[cycle(lower)]
-fn lower(node: &Node, want: bool, values: &[Three], slots: &[Slot], signs: &mut [Signs])
+/// The literals that a tree forces where it has to be as wanted.
+#[cycle(force_down)]
+fn force_down(node: &Node, want: bool, values: &[Three], slots: &[Slot], signs: &mut [Signs])
     requires { StartsWith slots.now (slots_of (value_at values.now) node.now) }
     ensures { Adds (forces (value_at values.now) node.now want) signs.old signs.new }
 {
     match node {
         Node::At(atom) => mark(signs, *atom as usize, want),
-        Node::Not(inner) => lower(inner.get(), !want, values, below(slots), signs),
+        Node::Not(inner) => force_down(inner.get(), !want, values, inner_slots(slots), signs),
         Node::And(parts) => {
-            let own = own(slots);
-            if either(want, own.only) {
-                lower_parts(parts.as_slice(), want, want, values, below(slots), signs)
+            let root = root_slot(slots);
+            if is_asked(want, root.only) {
+                force_parts(
+                    parts.as_slice(),
+                    want,
+                    want,
+                    values,
+                    inner_slots(slots),
+                    signs,
+                )
             }
         }
         Node::Or(parts) => {
-            let own = own(slots);
-            if either(!want, own.only) {
-                lower_parts(parts.as_slice(), want, !want, values, below(slots), signs)
+            let root = root_slot(slots);
+            if is_asked(!want, root.only) {
+                force_parts(
+                    parts.as_slice(),
+                    want,
+                    !want,
+                    values,
+                    inner_slots(slots),
+                    signs,
+                )
             }
         }
     }
@@ -331,7 +298,7 @@ pub fn mark_forced(root: &Node, values: &[Three], slots: &mut [Slot], signs: &mu
     ensures value { result ≡ value_of (value_at values.now) root.now }
     ensures forced { Adds (forces (value_at values.now) root.now true) signs.old signs.new }
 {
-    let lifted = lift(root, values, slots, 0);
-    lower(root, true, values, slots, signs);
-    lifted.value
+    let evaluated = evaluate_up(root, values, slots, 0);
+    force_down(root, true, values, slots, signs);
+    evaluated.value
 }

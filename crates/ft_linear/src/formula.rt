@@ -1,7 +1,7 @@
 ghost use Rattle.std.specs.Prelude.{◌≡◌, ◌↔◌, IsTrue, ◌≤◌, ◌+ℤ◌, ◌*ℤ◌, ℤ, true, length, All, unsigned_abs, slice_get, int_le};
 ghost use Rattle.std.specs.Option.{SomeIff};
 ghost use Rattle.std.specs.List.{list_all, list_any};
-ghost use Rattle.ft_linear.specs.Form.{Form, IsSmall, HasUnknowns, values_at, form_at, sum_at};
+ghost use Rattle.ft_linear.specs.Form.{LinView, IsSmall, HasUnknowns, values_at, form_at, sum_at};
 ghost use Rattle.ft_linear.specs.Truth.{truth};
 ghost use Rattle.ft_linear.specs.Formula.{atom_at, atoms_below, form_truth, IsOver, truth_at};
 ghost use Rattle.ft_linear.specs.Evaluate.{CanEvaluate};
@@ -12,7 +12,7 @@ use ft_base::List;
 use std::marker::Model;
 
 /// A formula: a tree over atoms, each of which says that a form is at most 0.
-#[derive(Debug, Drop)]
+#[derive(Drop)]
 pub struct Formula {
     atoms: List<Lin>,
     root: Node,
@@ -22,9 +22,9 @@ impl Model for Formula {
     ghost use Rattle.std.specs.Prelude.{◌≡◌, true, length};
     ghost use Rattle.std.specs.Coded.{codes};
     ghost use Rattle.ft_linear.specs.contracts.node.Node as node;
-    ghost use Rattle.ft_linear.specs.Formula.{Statement, atoms_below};
+    ghost use Rattle.ft_linear.specs.Formula.{FormulaView, atoms_below};
 
-    ghost Value = { Statement };
+    ghost Value = { FormulaView };
 
     ghost coded = { Prim.hlevel (codes, node.the_row.coded) };
 
@@ -33,6 +33,7 @@ impl Model for Formula {
     ghost invariant = { λ formula. atoms_below (length formula.atoms) formula.root ≡ true };
 }
 
+/// Whether each atom of some trees is below this number.
 #[cycle(below)]
 fn all_below(parts: &[Node], count: usize) -> bool
     ensures { result ≡ list_all (atoms_below count) parts.now }
@@ -45,7 +46,7 @@ fn all_below(parts: &[Node], count: usize) -> bool
     true
 }
 
-// Whether each atom of a tree is below this number.
+/// Whether each atom of a tree is below this number.
 #[cycle(below)]
 fn below(node: &Node, count: usize) -> bool
     ensures { result ≡ atoms_below count node.now }
@@ -58,6 +59,7 @@ fn below(node: &Node, count: usize) -> bool
     }
 }
 
+/// Whether each unknown of some forms is below this number.
 fn are_over(atoms: &[Lin], count: usize) -> bool
     ensures { IsTrue result ↔ All (λ l. HasUnknowns count l.factors) atoms.now }
 {
@@ -113,6 +115,7 @@ impl Formula {
     }
 }
 
+/// Whether each of some trees is true where the unknowns have these values.
 #[cycle(evaluate)]
 fn all_true(parts: &[Node], atoms: &[Lin], values: &[i64]) -> bool
     requires { CanEvaluate atoms.now values.now }
@@ -126,6 +129,7 @@ fn all_true(parts: &[Node], atoms: &[Lin], values: &[i64]) -> bool
     true
 }
 
+/// Whether some tree of these is true there.
 #[cycle(evaluate)]
 fn any_true(parts: &[Node], atoms: &[Lin], values: &[i64]) -> bool
     requires { CanEvaluate atoms.now values.now }
@@ -139,6 +143,7 @@ fn any_true(parts: &[Node], atoms: &[Lin], values: &[i64]) -> bool
     false
 }
 
+/// Whether a tree is true there.
 #[cycle(evaluate)]
 fn node_true(node: &Node, atoms: &[Lin], values: &[i64]) -> bool
     requires { CanEvaluate atoms.now values.now }
@@ -152,7 +157,7 @@ fn node_true(node: &Node, atoms: &[Lin], values: &[i64]) -> bool
     }
 }
 
-// Whether an atom's form is at most 0.
+/// Whether an atom's form is at most 0.
 fn atom_true(atoms: &[Lin], atom: usize, values: &[i64]) -> bool
     requires { CanEvaluate atoms.now values.now }
     ensures { result ≡ atom_at atoms.now (values_at values.now) atom }

@@ -4,7 +4,7 @@ ghost use Rattle.std.specs.Prelude.{◌≡◌, ◌<◌, ◌&&◌, ◌||◌, ℕ,
 ghost use Rattle.std.specs.List.{list_any, list_all};
 ghost use Rattle.ft_base.specs.declared.three.Three.TheVariants.{No, Maybe, Yes};
 ghost use Rattle.ft_linear.specs.Formula.{IsOver, Satisfies, atom_at};
-ghost use Rattle.ft_linear.specs.Forced.{is_no, is_yes};
+ghost use Rattle.ft_base.specs.Three.{is_no, is_yes};
 ghost use Rattle.ft_linear.specs.Part.{PointOf, against, agrees, atom_value, atoms_of, forced, is_against, is_agreed, is_forced_both, truth_of, value_by};
 ghost use Rattle.ft_linear.specs.Marks.{AreFor, AreJudged, CanWeigh, decided_at, decided_signs, signs_of, size_of};
 ghost use Rattle.ft_linear.specs.Form.{InArea};
@@ -22,6 +22,7 @@ struct Weighed {
     agreed: bool,
 }
 
+/// The value of an atom: its decision, else what it is fixed to.
 fn value_by(decision: Option<bool>, fixed: Three) -> Three
     ensures { result ≡ value_by decision fixed }
 {
@@ -32,6 +33,7 @@ fn value_by(decision: Option<bool>, fixed: Three) -> Three
     }
 }
 
+/// The literal that a decision forces.
 fn decided_signs(decision: Option<bool>) -> Signs
     ensures { result ≡ decided_signs decision }
 {
@@ -41,6 +43,7 @@ fn decided_signs(decision: Option<bool>) -> Signs
     }
 }
 
+/// Whether an atom is fixed the other way than it is decided.
 fn is_against(decision: Option<bool>, fixed: Three) -> bool
     ensures { result ≡ against decision fixed }
 {
@@ -51,6 +54,7 @@ fn is_against(decision: Option<bool>, fixed: Three) -> bool
     }
 }
 
+/// Whether an atom is fixed as it is decided, where it is decided.
 fn is_agreed(decision: Option<bool>, fixed: Three) -> bool
     ensures { result ≡ agrees decision fixed }
 {
@@ -61,18 +65,21 @@ fn is_agreed(decision: Option<bool>, fixed: Three) -> bool
     }
 }
 
+/// Whether one of two is so.
 fn either(first: bool, second: bool) -> bool
     ensures { result ≡ (first || second) }
 {
     first || second
 }
 
+/// Whether two are so.
 fn both(first: bool, second: bool) -> bool
     ensures { result ≡ (first && second) }
 {
     first && second
 }
 
+/// The decision of an atom.
 fn decision_at(decisions: &[Option<bool>], atom: usize) -> Option<bool>
     requires { atom < length decisions.now }
     ensures { slice_get decisions.now atom ≡ Some result }
@@ -80,7 +87,7 @@ fn decision_at(decisions: &[Option<bool>], atom: usize) -> Option<bool>
     decisions[atom]
 }
 
-// The values of the atoms and their decided literals.
+/// The values of the atoms and their decided literals.
 fn weigh(formula: &Formula, part: &Part, values: &mut [Three], signs: &mut [Signs]) -> Weighed
     requires { CanWeigh formula.now part.now (length values.old) (length signs.old) }
     ensures values { (a : ℕ) → a < length formula.now.atoms → slice_get values.new a ≡ Some (atom_value formula.now part.now a) }
@@ -103,12 +110,14 @@ fn weigh(formula: &Formula, part: &Part, values: &mut [Three], signs: &mut [Sign
     Weighed { against, agreed }
 }
 
+/// Whether some atom is forced both ways.
 fn any_both(signs: &[Signs]) -> bool
     ensures { result ≡ list_any (λ s. s.yes && s.no) signs.now }
 {
     signs.iter().any(|s| s.yes && s.no)
 }
 
+/// The truth of a part, by its root's value and what the atoms tell.
 fn truth_by(root: Three, against: bool, both: bool, agreed: bool) -> Three
     ensures { result ≡ if is_no root || against || both then No else if is_yes root && agreed then Yes else Maybe }
 {
@@ -121,6 +130,7 @@ fn truth_by(root: Three, against: bool, both: bool, agreed: bool) -> Three
     }
 }
 
+/// Judges a part in the room of marks.
 fn judge_in(
     formula: &Formula,
     part: &Part,

@@ -25,6 +25,3 @@ pub use node::{Node, Raw};
 pub use part::Part;
 pub use rules::{contradict, tighten};
 pub use settling::{is_moderate, settle};
-
-#[cfg(test)]
-mod tests;

@@ -1,5 +1,6 @@
 ghost use Rattle.std.specs.Prelude.{◌≡◌, ◌≢◌, ◌≤◌, ◌↔◌, IsTrue, pos, length, nat_le, unsigned_abs, All};
 ghost use Rattle.std.specs.Option.{SomeIff};
+ghost use Rattle.ft_linear.specs.Bounds.{moderate_most};
 ghost use Rattle.ft_linear.specs.Form.{IsProper, IsSmall, AreRising, HasUnknowns, values_at, form_at};
 ghost use Rattle.ft_linear.specs.Part.{fixed_form};
 
@@ -14,34 +15,37 @@ const LIMIT: u64 = 4_000_000_000_000_000;
 const FACTORS: usize = 10_000;
 
 /// A whole linear form: a sum of whole factors of unknowns, which are numbered from 0, and a constant.
-#[derive(Debug, Drop)]
+#[derive(Drop)]
 pub struct Lin {
     factors: List<(u32, i64)>,
     constant: i64,
 }
 
 impl Model for Lin {
-    ghost use Rattle.ft_linear.specs.Form.{Form, IsProper};
+    ghost use Rattle.ft_linear.specs.Form.{LinView, IsProper};
 
-    ghost Value = { Form };
+    ghost Value = { LinView };
 
     ghost view = { λ form. record { factors = form.factors; constant = form.constant } };
 
     ghost invariant = { λ form. IsProper form.factors form.constant };
 }
 
+/// Whether a number may be a factor.
 fn is_factor(factor: i64) -> bool
     ensures { IsTrue result ↔ ((factor ≢ pos 0) × IsSmall factor) }
 {
     factor != 0 && factor.unsigned_abs() <= LIMIT
 }
 
+/// Whether a factor may stand where unknowns from this one on may.
 fn may_follow(from: u64, factor: (u32, i64)) -> bool
     ensures { IsTrue result ↔ ((from ≤ factor.0) × (factor.1 ≢ pos 0) × IsSmall factor.1) }
 {
     from <= u64::from(factor.0) && is_factor(factor.1)
 }
 
+/// Whether the unknowns rise strictly and each factor may be one.
 fn are_rising(factors: &[(u32, i64)]) -> bool
     ensures { IsTrue result ↔ AreRising 0 factors.now }
 {
@@ -100,7 +104,7 @@ impl Lin {
 
     /// Whether the constant is at most 3,000,000,000,000,000 either way.
     pub fn is_moderate(&self) -> bool
-        ensures { result ≡ nat_le (unsigned_abs self.now.constant) 3000000000000000 }
+        ensures { result ≡ nat_le (unsigned_abs self.now.constant) moderate_most }
     {
         self.constant.unsigned_abs() <= 3_000_000_000_000_000
     }

@@ -1,6 +1,7 @@
 // The lines of a sum: forced literals and bounds, each with its form and its multiplier.
 
 ghost use Rattle.std.specs.Prelude.{◌≡◌, ◌≤◌, ◌<◌, ◌+◌, ◌&&◌, ◌-ℤ◌, neg_ℤ, pos, true, [], ◌∷◌, length, slice_get, unsigned_abs, is_some, if◌then◌else◌};
+ghost use Rattle.ft_linear.specs.Bounds.{line_most};
 ghost use Rattle.ft_linear.specs.Form.{AreRising, IsSmall, span_at};
 ghost use Rattle.ft_linear.specs.Part.{forced};
 ghost use Rattle.ft_linear.specs.Marks.{AreFor, AreJudged};
@@ -17,7 +18,7 @@ const LINES: usize = 4_300;
 const TIMES: u64 = 4_611_686_018_427_387_904;
 
 /// A line that is at most 0 in a part, and how many times it is taken.
-#[derive(Clone, Copy, Debug, Drop)]
+#[derive(Clone, Copy, Drop)]
 pub enum Line {
     /// A forced literal: the atom's form, or 1 minus it where the atom is forced false.
     Atom {
@@ -44,6 +45,7 @@ pub enum Line {
     },
 }
 
+/// How many times a line is taken.
 pub fn times_of(line: &Line) -> u64
     ensures { result ≡ times_of line.now }
 {
@@ -54,13 +56,14 @@ pub fn times_of(line: &Line) -> u64
     }
 }
 
+/// Whether a line may be taken so many times.
 fn is_multiplier(times: u64) -> bool
     ensures { result ≡ is_multiplier times }
 {
     1 <= times && times <= TIMES
 }
 
-// Whether a literal of an atom of the formula is forced.
+/// Whether a literal of an atom of the formula is forced.
 fn is_forced(formula: &Formula, part: &Part, marks: &Marks, atom: usize, value: bool) -> bool
     requires opened { AreFor formula.now part.now marks.now }
     requires judged { AreJudged formula.now part.now marks.now }
@@ -72,6 +75,7 @@ fn is_forced(formula: &Formula, part: &Part, marks: &Marks, atom: usize, value: 
     marks.has_sign(atom, value)
 }
 
+/// Whether a line has a form: its literal is forced, or its unknown is there.
 fn has_form(formula: &Formula, part: &Part, marks: &Marks, line: &Line) -> bool
     requires opened { AreFor formula.now part.now marks.now }
     requires judged { AreJudged formula.now part.now marks.now }
@@ -86,6 +90,7 @@ fn has_form(formula: &Formula, part: &Part, marks: &Marks, line: &Line) -> bool
     }
 }
 
+/// Whether these are lines whose sum can be taken: not too many, each with a form and a multiplier.
 pub fn are_lines(formula: &Formula, part: &Part, marks: &Marks, lines: &[Line]) -> bool
     requires opened { AreFor formula.now part.now marks.now }
     requires judged { AreJudged formula.now part.now marks.now }
@@ -102,7 +107,7 @@ pub fn are_lines(formula: &Formula, part: &Part, marks: &Marks, lines: &[Line]) 
     true
 }
 
-// The factor of an unknown in a form, whose unknowns rise.
+/// The factor of an unknown in a form, whose unknowns rise.
 fn factor_of(factors: &[(u32, i64)], unknown: u32) -> i64
     requires { AreRising 0 factors.now }
     ensures value { result ≡ factor_of unknown factors.now }
@@ -116,6 +121,7 @@ fn factor_of(factors: &[(u32, i64)], unknown: u32) -> i64
     0
 }
 
+/// The factor of an unknown in a form that has one unknown alone, with this factor.
 fn unit_at(own: u32, unknown: u32, unit: i64) -> i64
     requires { unsigned_abs unit ≤ 1 }
     ensures value { result ≡ factor_of unknown ((own, unit) ∷ []) }
@@ -133,10 +139,11 @@ pub fn signed(value: bool, number: i64) -> i64
     if value { number } else { -number }
 }
 
+/// The factor of an unknown in a line.
 pub fn line_factor(formula: &Formula, part: &Part, line: &Line, unknown: u32) -> i64
     requires { is_line formula.now part.now line.now ≡ true }
     ensures value { result ≡ factor_of unknown (factors_in (line_form formula.now part.now line.now)) }
-    ensures small { unsigned_abs result ≤ 4000000000000001 }
+    ensures small { unsigned_abs result ≤ line_most }
 {
     match *line {
         Line::Atom { number, value, .. } => signed(
@@ -157,6 +164,7 @@ pub fn turned(value: bool, constant: i64) -> i64
     if value { constant } else { 1 - constant }
 }
 
+/// The greatest number of an unknown.
 fn upper(part: &Part, unknown: usize) -> i64
     requires { unknown < length part.now.spans }
     ensures value { result ≡ (span_at part.now.spans unknown).1 }
@@ -165,6 +173,7 @@ fn upper(part: &Part, unknown: usize) -> i64
     part.area().spans.as_slice()[unknown].hi()
 }
 
+/// The least number of an unknown.
 fn lower(part: &Part, unknown: usize) -> i64
     requires { unknown < length part.now.spans }
     ensures value { result ≡ (span_at part.now.spans unknown).0 }
@@ -173,10 +182,11 @@ fn lower(part: &Part, unknown: usize) -> i64
     part.area().spans.as_slice()[unknown].lo()
 }
 
+/// The constant of a line.
 pub fn line_constant(formula: &Formula, part: &Part, line: &Line) -> i64
     requires { is_line formula.now part.now line.now ≡ true }
     ensures value { result ≡ constant_in (line_form formula.now part.now line.now) }
-    ensures small { unsigned_abs result ≤ 4000000000000001 }
+    ensures small { unsigned_abs result ≤ line_most }
 {
     match *line {
         Line::Atom { number, value, .. } => {

@@ -1,6 +1,6 @@
 ghost use Rattle.std.specs.Prelude.{◌≡◌, ◌+◌, ◌<◌, length, map, sum, slice_get, IfOk, OnOk};
 ghost use Rattle.std.specs.Option.{option_map};
-ghost use Rattle.ft_linear.specs.Marks.{Findings, size_of, literal_of, sign_of};
+ghost use Rattle.ft_linear.specs.Marks.{MarksView, size_of, literal_of, sign_of};
 
 use crate::forcing::{Signs, Slot};
 use crate::formula::Formula;
@@ -12,7 +12,7 @@ use std::marker::Model;
 
 /// What is known of a formula's atoms in a part: their values, and which literals are forced. It is the room
 /// in which a part is judged, and is taken once for a formula.
-#[derive(Debug, Drop)]
+#[derive(Drop)]
 pub struct Marks {
     pub(crate) values: Vec<Three>,
     pub(crate) signs: Vec<Signs>,
@@ -21,13 +21,14 @@ pub struct Marks {
 
 impl Model for Marks {
     ghost use Rattle.std.specs.Prelude.{length};
-    ghost use Rattle.ft_linear.specs.Marks.{Findings};
+    ghost use Rattle.ft_linear.specs.Marks.{MarksView};
 
-    ghost Value = { Findings };
+    ghost Value = { MarksView };
 
     ghost view = { λ marks. record { values = marks.values.items; signs = marks.signs.items; room = length marks.slots.items } };
 }
 
+/// Slots for each node of some trees.
 #[cycle(take_slots)]
 fn take_all(parts: &[Node], slots: &mut Vec<Slot>) -> Result<(), NoMemory>
     ensures { OnOk result (length slots.new.items ≡ length slots.old.items + sum (map size_of parts.now)) }
@@ -38,7 +39,7 @@ fn take_all(parts: &[Node], slots: &mut Vec<Slot>) -> Result<(), NoMemory>
     Ok(())
 }
 
-// A slot for each node of a tree.
+/// A slot for each node of a tree.
 #[cycle(take_slots)]
 fn take_slots(node: &Node, slots: &mut Vec<Slot>) -> Result<(), NoMemory>
     ensures { OnOk result (length slots.new.items ≡ length slots.old.items + size_of node.now) }
@@ -52,6 +53,7 @@ fn take_slots(node: &Node, slots: &mut Vec<Slot>) -> Result<(), NoMemory>
     }
 }
 
+/// A value for each atom.
 fn open_values(alloc: Global, atoms: &[Lin]) -> Result<Vec<Three>, NoMemory>
     ensures { IfOk result (λ values. length values.items ≡ length atoms.now) }
 {
@@ -62,6 +64,7 @@ fn open_values(alloc: Global, atoms: &[Lin]) -> Result<Vec<Three>, NoMemory>
     Ok(values)
 }
 
+/// Signs for each atom.
 fn open_signs(alloc: Global, atoms: &[Lin]) -> Result<Vec<Signs>, NoMemory>
     ensures { IfOk result (λ signs. length signs.items ≡ length atoms.now) }
 {

@@ -2,7 +2,7 @@ use crate::lin::Lin;
 use ft_base::{Boxed, List};
 
 /// A formula as it is built, before its atoms are made canonical.
-#[derive(Debug, Drop)]
+#[derive(Drop)]
 pub enum Raw {
     /// The form is at most 0.
     Le(Lin),
@@ -15,7 +15,7 @@ pub enum Raw {
 }
 
 /// The tree of a formula over its atoms.
-#[derive(Debug, Drop)]
+#[derive(Drop)]
 pub enum Node {
     /// The atom with this number is true.
     At(u32),

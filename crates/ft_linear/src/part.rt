@@ -1,5 +1,5 @@
 ghost use Rattle.std.specs.Prelude.{◌≡◌, ◌<◌, length, map, slice_get, slice_set, IfOk};
-ghost use Rattle.ft_linear.specs.Part.{Region};
+ghost use Rattle.ft_linear.specs.Part.{PartView};
 
 use crate::area::Area;
 use crate::formula::Formula;
@@ -9,20 +9,21 @@ use std::alloc::Global;
 use std::marker::Model;
 
 /// A part of an area: spans for the unknowns of a formula, and a decision for some of its atoms.
-#[derive(Debug, Drop)]
+#[derive(Drop)]
 pub struct Part {
     area: Area,
     decided: List<Option<bool>>,
 }
 
 impl Model for Part {
-    ghost use Rattle.ft_linear.specs.Part.{Region};
+    ghost use Rattle.ft_linear.specs.Part.{PartView};
 
-    ghost Value = { Region };
+    ghost Value = { PartView };
 
     ghost view = { λ part. record { spans = part.area.spans; decided = part.decided } };
 }
 
+/// A decision for each atom, none of which is made.
 fn none_decided(alloc: Global, atoms: &[Lin]) -> Result<List<Option<bool>>, NoMemory>
     ensures { IfOk result (λ decided. decided ≡ map (λ atom. None) atoms.now) }
 {

@@ -8,6 +8,7 @@ ghost use Rattle.std.specs.Prelude.{◌≡◌, ◌≤◌, ◌<◌, ◌+◌, ◌*
 ghost use Rattle.std.specs.List.{list_all};
 ghost use Rattle.ft_base.specs.Interval.{IsWithin};
 ghost use Rattle.ft_base.specs.Division.{floor_of};
+ghost use Rattle.ft_linear.specs.Bounds.{line_most, line_product_most, line_sum_most, times_most};
 ghost use Rattle.ft_linear.specs.Form.{InArea, span_at};
 ghost use Rattle.ft_linear.specs.Marks.{AreFor, AreJudged};
 ghost use Rattle.ft_linear.specs.Rules.{Contradicts, HoldsForced, Tightens, are_lines, factors_in, is_line, line_form, narrowed, down_to, up_to, total_constant, total_factor};
@@ -19,30 +20,32 @@ use crate::marks::Marks;
 use crate::part::Part;
 use ft_base::Span;
 
+/// A number of a line as many times as the line is taken.
 fn product(times: u64, number: i64) -> i128
-    requires times { times ≤ 4611686018427387904 }
-    requires number { unsigned_abs number ≤ 4000000000000001 }
+    requires times { times ≤ times_most }
+    requires number { unsigned_abs number ≤ line_most }
     ensures value { result ≡ pos times *ℤ number }
-    ensures small { unsigned_abs result ≤ 18446744073709556227686018427387904 }
+    ensures small { unsigned_abs result ≤ line_product_most }
 {
     i128::from(times) * i128::from(number)
 }
 
+/// One more product, after so many.
 fn plus(total: i128, term: i128, count: usize) -> i128
-    requires total { unsigned_abs total ≤ 18446744073709556227686018427387904 * count }
-    requires term { unsigned_abs term ≤ 18446744073709556227686018427387904 }
+    requires total { unsigned_abs total ≤ line_product_most * count }
+    requires term { unsigned_abs term ≤ line_product_most }
     requires count { count < 4300 }
     ensures sum { result ≡ total +ℤ term }
-    ensures small { unsigned_abs result ≤ 18446744073709556227686018427387904 * (count + 1) }
+    ensures small { unsigned_abs result ≤ line_product_most * (count + 1) }
 {
     total + term
 }
 
-// The factor of an unknown in the sum of the lines.
+/// The factor of an unknown in the sum of the lines.
 fn total_factor(formula: &Formula, part: &Part, lines: &[Line], unknown: u32) -> i128
     requires { are_lines formula.now part.now lines.now ≡ true }
     ensures value { result ≡ total_factor formula.now part.now unknown lines.now }
-    ensures small { unsigned_abs result ≤ 79320999516951091779049879237767987200 }
+    ensures small { unsigned_abs result ≤ line_sum_most }
 {
     let mut total = 0;
     'lines: for (at, line) in lines.iter().enumerate() {
@@ -52,11 +55,11 @@ fn total_factor(formula: &Formula, part: &Part, lines: &[Line], unknown: u32) ->
     total
 }
 
-// The constant in the sum of the lines.
+/// The constant in the sum of the lines.
 fn total_constant(formula: &Formula, part: &Part, lines: &[Line]) -> i128
     requires { are_lines formula.now part.now lines.now ≡ true }
     ensures value { result ≡ total_constant formula.now part.now lines.now }
-    ensures small { unsigned_abs result ≤ 79320999516951091779049879237767987200 }
+    ensures small { unsigned_abs result ≤ line_sum_most }
 {
     let mut total = 0;
     'lines: for (at, line) in lines.iter().enumerate() {
@@ -66,6 +69,7 @@ fn total_constant(formula: &Formula, part: &Part, lines: &[Line]) -> i128
     total
 }
 
+/// Whether an unknown is the one that is kept.
 fn is_kept(kept: Option<u32>, unknown: u32) -> bool
     ensures { result ≡ is_kept kept unknown }
 {
@@ -75,7 +79,7 @@ fn is_kept(kept: Option<u32>, unknown: u32) -> bool
     }
 }
 
-// Whether an unknown cancels in the sum of the lines, or is the one that is kept.
+/// Whether an unknown cancels in the sum of the lines, or is the one that is kept.
 fn is_cancelled(
     formula: &Formula,
     part: &Part,
@@ -89,6 +93,7 @@ fn is_cancelled(
     is_kept(kept, unknown) || total_factor(formula, part, lines, unknown) == 0
 }
 
+/// Whether the unknowns of these factors all cancel.
 fn are_cancelled(
     formula: &Formula,
     part: &Part,
@@ -107,6 +112,7 @@ fn are_cancelled(
     true
 }
 
+/// Whether the unknowns of a line all cancel.
 fn line_cancelled(
     formula: &Formula,
     part: &Part,
@@ -128,7 +134,7 @@ fn line_cancelled(
     }
 }
 
-// Whether each unknown of the lines cancels in their sum, but for one that may be kept.
+/// Whether each unknown of the lines cancels in their sum, but for one that may be kept.
 fn all_cancelled(formula: &Formula, part: &Part, lines: &[Line], kept: Option<u32>) -> bool
     requires { are_lines formula.now part.now lines.now ≡ true }
     ensures { IsTrue result ↔ ((u : ℕ) → is_kept kept u ≡ false → total_factor formula.now part.now u lines.now ≡ pos 0) }
@@ -157,6 +163,7 @@ pub fn contradict(formula: &Formula, part: &Part, marks: &Marks, lines: &[Line])
     total_constant(formula, part, lines) > 0
 }
 
+/// The span with this upper end, where that is smaller and not empty.
 fn up_to(span: Span, hi: i128) -> Option<Span>
     ensures { result ≡ up_to span hi }
 {
@@ -167,6 +174,7 @@ fn up_to(span: Span, hi: i128) -> Option<Span>
     }
 }
 
+/// The span with this lower end, where that is smaller and not empty.
 fn down_to(span: Span, lo: i128) -> Option<Span>
     ensures { result ≡ down_to span lo }
 {
@@ -177,27 +185,29 @@ fn down_to(span: Span, lo: i128) -> Option<Span>
     }
 }
 
+/// Minus the number.
 fn opposite(number: i128) -> i128
-    requires { unsigned_abs number ≤ 79320999516951091779049879237767987200 }
+    requires { unsigned_abs number ≤ line_sum_most }
     ensures value { result ≡ neg_ℤ number }
-    ensures small { unsigned_abs result ≤ 79320999516951091779049879237767987200 }
+    ensures small { unsigned_abs result ≤ line_sum_most }
 {
     -number
 }
 
+/// The quotient, rounded down.
 fn floor(number: i128, divisor: i128) -> i128
-    requires small { unsigned_abs number ≤ 79320999516951091779049879237767987200 }
+    requires small { unsigned_abs number ≤ line_sum_most }
     requires above { pos 0 <ℤ divisor }
     ensures value { result ≡ floor_of number divisor }
-    ensures small { unsigned_abs result ≤ 79320999516951091779049879237767987200 }
+    ensures small { unsigned_abs result ≤ line_sum_most }
 {
     number.div_euclid(divisor)
 }
 
-// The numbers x of the span with g*x + c at most 0.
+/// The numbers x of the span with g*x + c at most 0.
 fn narrowed(g: i128, c: i128, span: Span) -> Option<Span>
-    requires factor { unsigned_abs g ≤ 79320999516951091779049879237767987200 }
-    requires constant { unsigned_abs c ≤ 79320999516951091779049879237767987200 }
+    requires factor { unsigned_abs g ≤ line_sum_most }
+    requires constant { unsigned_abs c ≤ line_sum_most }
     ensures { result ≡ narrowed g c span }
 {
     let most = opposite(c);

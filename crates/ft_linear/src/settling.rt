@@ -2,6 +2,7 @@
 
 ghost use Rattle.std.specs.Prelude.{◌≡◌, ◌≤◌, ◌<◌, IfOk, OnOk, ℕ, ℤ, pos, int_le, [], true, length, map, nat_le, unsigned_abs, if◌then◌else◌};
 ghost use Rattle.std.specs.List.{list_all, list_any, flat_map, position_or_len};
+ghost use Rattle.ft_linear.specs.Bounds.{moderate_most};
 ghost use Rattle.ft_linear.specs.Form.{values_at};
 ghost use Rattle.ft_linear.specs.Formula.{truth_at};
 ghost use Rattle.ft_linear.specs.Canonical.{all_begin_well, atoms_in, begins_well, canonical, forms_of, is_moderate, place_of, placed, placed_form, raw_truth, same_form, settled, with_form, with_forms};
@@ -13,6 +14,7 @@ use crate::node::{Node, Raw};
 use ft_base::{Boxed, List, NoMemory};
 use std::alloc::Global;
 
+/// Whether a form stands among these.
 fn is_there(forms: &[Lin], form: &Lin) -> bool
     ensures { result ≡ list_any (same_form form.now) forms.now }
 {
@@ -24,6 +26,7 @@ fn is_there(forms: &[Lin], form: &Lin) -> bool
     false
 }
 
+/// Adds a form that isn't there.
 fn add_form(forms: &mut List<Lin>, form: Lin) -> Result<(), NoMemory>
     ensures { OnOk result (forms.new ≡ with_form forms.old form) }
 {
@@ -33,8 +36,9 @@ fn add_form(forms: &mut List<Lin>, form: Lin) -> Result<(), NoMemory>
     forms.push(form)
 }
 
+/// Adds the canonical atom of a form. One without unknowns has none.
 fn add_atom(alloc: Global, form: &Lin, forms: &mut List<Lin>) -> Result<(), NoMemory>
-    requires { nat_le (unsigned_abs form.now.constant) 3000000000000000 ≡ true }
+    requires { nat_le (unsigned_abs form.now.constant) moderate_most ≡ true }
     ensures forms { OnOk result (forms.new ≡ with_forms forms.old (atoms_in form.now form.now.factors)) }
     ensures begins { OnOk result (begins_well form.now.factors ≡ true) }
 {
@@ -44,6 +48,7 @@ fn add_atom(alloc: Global, form: &Lin, forms: &mut List<Lin>) -> Result<(), NoMe
     add_form(forms, canonical(alloc, form)?)
 }
 
+/// Adds the canonical atoms of some formulas.
 #[cycle(collect)]
 fn collect_all(alloc: Global, parts: &[Raw], forms: &mut List<Lin>) -> Result<(), NoMemory>
     requires { list_all is_moderate parts.now ≡ true }
@@ -56,7 +61,7 @@ fn collect_all(alloc: Global, parts: &[Raw], forms: &mut List<Lin>) -> Result<()
     Ok(())
 }
 
-// Adds the canonical atoms of a formula.
+/// Adds the canonical atoms of a formula.
 #[cycle(collect)]
 fn collect(alloc: Global, raw: &Raw, forms: &mut List<Lin>) -> Result<(), NoMemory>
     requires { is_moderate raw.now ≡ true }
@@ -71,6 +76,7 @@ fn collect(alloc: Global, raw: &Raw, forms: &mut List<Lin>) -> Result<(), NoMemo
     }
 }
 
+/// The place of a form among these; their number where it is none of them.
 fn place_of(forms: &[Lin], form: &Lin) -> usize
     ensures { result ≡ place_of forms.now form.now }
 {
@@ -82,7 +88,7 @@ fn place_of(forms: &[Lin], form: &Lin) -> usize
     forms.len()
 }
 
-// The node of an atom. More than 2^32 atoms are refused as want of memory.
+/// The node of an atom. More than 2^32 atoms are refused as want of memory.
 fn atom_at(place: usize) -> Result<Node, NoMemory>
     ensures { IfOk result (λ node. node ≡ Node.At place) }
 {
@@ -92,12 +98,14 @@ fn atom_at(place: usize) -> Result<Node, NoMemory>
     }
 }
 
+/// The tree that is true where this one is false.
 fn negation(alloc: Global, node: Node) -> Result<Node, NoMemory>
     ensures { IfOk result (λ whole. whole ≡ Node.Not node) }
 {
     Ok(Node::Not(Boxed::new(alloc, node)?))
 }
 
+/// The tree of a form without unknowns, which is true or false everywhere.
 fn without_unknowns(alloc: Global, constant: i64) -> Node
     ensures { result ≡ if int_le constant (pos 0) then Node.And [] else Node.Or [] }
 {
@@ -108,8 +116,9 @@ fn without_unknowns(alloc: Global, constant: i64) -> Node
     }
 }
 
+/// The tree of a form's atom, over these canonical atoms.
 fn place_form(alloc: Global, form: &Lin, forms: &[Lin]) -> Result<Node, NoMemory>
-    requires { nat_le (unsigned_abs form.now.constant) 3000000000000000 ≡ true }
+    requires { nat_le (unsigned_abs form.now.constant) moderate_most ≡ true }
     ensures { IfOk result (λ node. node ≡ placed_form forms.now form.now form.now.factors) }
 {
     if form.factors().is_empty() {
@@ -123,6 +132,7 @@ fn place_form(alloc: Global, form: &Lin, forms: &[Lin]) -> Result<Node, NoMemory
     }
 }
 
+/// The trees of some formulas over these canonical atoms.
 #[cycle(place)]
 fn place_all(alloc: Global, parts: &[Raw], forms: &[Lin]) -> Result<List<Node>, NoMemory>
     requires { list_all is_moderate parts.now ≡ true }
@@ -135,6 +145,7 @@ fn place_all(alloc: Global, parts: &[Raw], forms: &[Lin]) -> Result<List<Node>, 
     Ok(nodes)
 }
 
+/// The tree of a formula over these canonical atoms.
 #[cycle(place)]
 fn place(alloc: Global, raw: &Raw, forms: &[Lin]) -> Result<Node, NoMemory>
     requires { is_moderate raw.now ≡ true }
@@ -148,6 +159,7 @@ fn place(alloc: Global, raw: &Raw, forms: &[Lin]) -> Result<Node, NoMemory>
     }
 }
 
+/// Whether each constant of some formulas is moderate.
 #[cycle(is_moderate)]
 fn all_moderate(parts: &[Raw]) -> bool
     ensures { result ≡ list_all is_moderate parts.now }

@@ -1,8 +1,8 @@
 use Rattle.std.proofs.Common.{◌≤◌, ◌*◌, ℕ, ℤ, ◌+ℤ◌, ◌≤ℤ◌, All}
 use Rattle.std.specs.Prelude.{unsigned_abs}
-use Rattle.ft_diff.specs.Differences.{Meets}
+use Rattle.ft_diff.specs.Differences.{Meets, difference_most}
 use Rattle.ft_diff.proofs.cycle.is_negative_cycle.Given as goal
 
 -- every solution keeps the first number within this total of the one that is reached
 abbrev pub invariant-loop-turn : goal.invariant-loop-turn
-invariant-loop-turn l = ((x : ℕ → ℤ) → All (Meets x) l.list → x l.start ≤ℤ (x l.unknown +ℤ l.total)) × (unsigned_abs l.total ≤ 5000000000000000 * l.turn)
+invariant-loop-turn l = ((x : ℕ → ℤ) → All (Meets x) l.list → x l.start ≤ℤ (x l.unknown +ℤ l.total)) × (unsigned_abs l.total ≤ difference_most * l.turn)

@@ -3,6 +3,7 @@ use Rattle.std.specs.Prelude.{unsigned_abs}
 use Rattle.std.proofs.lemmas.Int.{to_z-of_z}
 use Rattle.std.proofs.lemmas.List.{length-map}
 use Rattle.ft_base.specs.Division.{floor_of}
+use Rattle.ft_linear.specs.Bounds.{value_most}
 use Rattle.ft_linear.specs.Form.{AreRising, IsSmall}
 use Rattle.ft_linear.specs.Canonical.{gcd_of, is_positive, quotient_of}
 use Rattle.ft_linear.proofs.CanonicalLemmas.{begins-well, gcd-divides, quotients-rise, quotients-are}
@@ -22,7 +23,7 @@ of_proper-requires c =
     let fits_up : SFits w64 c.rounded_up.result = search rules in
     let step = rw (to_z-of_z w64 c.rounded_up.result fits_up) at c.turned-constant.ensures.small in
     let up = c.rounded_up.ensures.small in
-    let small : unsigned_abs c.turned-constant.result ≤ 4000000000000000 = omega (arith, step, up) in
+    let small : unsigned_abs c.turned-constant.result ≤ value_most = omega (arith, step, up) in
     record {
       few = let few = proper.few in omega (arith, long, few);
       rising = subst (AreRising 0) (sym factors) (quotients-rise (is_positive fs) (gcd_of fs) 0 fs divides.1 divides.0 proper.rising);

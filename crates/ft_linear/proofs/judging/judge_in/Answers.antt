@@ -2,7 +2,8 @@ use Rattle.std.proofs.Common.{◌≡◌, ◌∙◌, ap, subst, arith, ◌||◌, 
 use Rattle.ft_base.specs.declared.three.Three.{Three}
 use Rattle.ft_base.specs.declared.three.Three.TheVariants.{No, Maybe, Yes}
 use Rattle.ft_linear.specs.declared.node.Node.{Node}
-use Rattle.ft_linear.specs.Forced.{value_of, forces, is_no, is_yes}
+use Rattle.ft_linear.specs.Forced.{value_of, forces}
+use Rattle.ft_base.specs.Three.{is_no, is_yes}
 use Rattle.ft_linear.specs.Part.{atom_value}
 use Rattle.ft_linear.specs.Slots.{value_at, Adds}
 use Rattle.ft_linear.specs.Marks.{size_of}

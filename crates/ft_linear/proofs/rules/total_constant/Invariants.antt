@@ -1,7 +1,8 @@
 use Rattle.std.proofs.Common.{◌≡◌, ◌≤◌, ◌*◌, take}
 use Rattle.std.specs.Prelude.{unsigned_abs}
+use Rattle.ft_linear.specs.Bounds.{line_product_most}
 use Rattle.ft_linear.specs.Rules.{total_constant}
 use Rattle.ft_linear.proofs.rules.total_constant.Given as goal
 
 abbrev pub invariant-lines : goal.invariant-lines
-invariant-lines l = (l.total ≡ (total_constant l.formula l.part) (take l.at l.lines)) × (unsigned_abs l.total ≤ 18446744073709556227686018427387904 * l.at)
+invariant-lines l = (l.total ≡ (total_constant l.formula l.part) (take l.at l.lines)) × (unsigned_abs l.total ≤ line_product_most * l.at)

@@ -1,7 +1,8 @@
 use Rattle.std.proofs.Common.{◌≡◌, ◌≤◌, ◌*◌, take}
 use Rattle.std.specs.Prelude.{unsigned_abs}
+use Rattle.ft_linear.specs.Bounds.{product_most}
 use Rattle.ft_linear.specs.Form.{most}
 use Rattle.ft_linear.proofs.sums.most_of.Given as goal
 
 abbrev pub invariant-factors : goal.invariant-factors
-invariant-factors l = (l.total ≡ most l.spans (take l.at l.factors)) × (unsigned_abs l.total ≤ 16000000000000000000000000000000 * l.at)
+invariant-factors l = (l.total ≡ most l.spans (take l.at l.factors)) × (unsigned_abs l.total ≤ product_most * l.at)

@@ -1,7 +1,0 @@
-use Rattle.std.proofs.Common.{take, All}
-use Rattle.ft_diff.specs.Differences.{IsOver}
-use Rattle.ft_diff.proofs.solving.tests.are_over.Given as goal
-
--- the lines before this one are over the area
-abbrev pub invariant-loop-line : goal.invariant-loop-line
-invariant-loop-line l = All (IsOver l.count) (take l.line-index l.list)

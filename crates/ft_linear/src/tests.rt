@@ -1,5 +1,0 @@
-mod evaluating;
-mod fixtures;
-mod judging;
-mod settling;
-mod sums;
