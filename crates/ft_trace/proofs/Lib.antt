@@ -1,0 +1,12 @@
+mod Digits
+mod HeaderLemmas
+mod LineLemmas
+mod NumberLemmas
+mod OneHistory
+mod PlaceLemmas
+mod Quirks
+mod ReaderLemmas
+mod Records
+mod RowLemmas
+mod Written
+mod WritingLemmas

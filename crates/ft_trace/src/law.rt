@@ -1,0 +1,21 @@
+//! Which history bytes spell, over the definitions alone.
+ghost use Rattle.std.specs.Prelude.{ℕ, List, ◌≡◌};
+ghost use Rattle.ft_core.specs.declared.tables.Tables.{Tables};
+ghost use Rattle.ft_mean.specs.Reading.{Scans};
+ghost use Rattle.ft_trace.specs.Spelling.{IsFirstFault, SpellsHistory};
+ghost use Rattle.ft_trace.specs.declared.fault.TraceFault.{TraceFault};
+ghost use Rattle.ft_trace.specs.declared.fault.TraceFault.TheVariants as faults;
+
+use ft_mean::row_laws;
+
+/// Bytes spell one history at most.
+pub fn one_history()
+    ensures { (S : Tables) (bytes : List ℕ) (h k : Scans) → SpellsHistory S bytes h → SpellsHistory S bytes k → h ≡ k }
+{
+    row_laws();
+}
+
+/// Bytes that spell a history have no fault.
+pub fn history_or_fault()
+    ensures { (S : Tables) (bytes : List ℕ) (h : Scans) (f : TraceFault) → SpellsHistory S bytes h → IsFirstFault S bytes f → f ≡ faults.NoMemory }
+{}
