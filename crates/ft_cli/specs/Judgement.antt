@@ -11,10 +11,10 @@ use Rattle.ft_mean.specs.Allowed.{Allowed}
 use Rattle.ft_mean.specs.Proper.{IsProper, AllProper}
 use Rattle.ft_mean.specs.Refines.{Refines, FirstDiffers, ShortSafe}
 use Rattle.ft_tree.specs.declared.tree.Tree.{Tree}
-use Rattle.ft_parse.specs.Parse as tree_spelling
-use Rattle.ft_parse.specs.Parse.{IsFault}
-use Rattle.ft_parse.specs.declared.stop.ParseFault.{ParseFault}
-use Rattle.ft_parse.specs.declared.stop.ParseFault.TheVariants as fault
+use Rattle.ft_parse.specs.meaning.Parse as tree_spelling
+use Rattle.ft_parse.specs.meaning.Parse.{IsFault}
+use Rattle.ft_parse.specs.declared.fault.ParseFault.{ParseFault}
+use Rattle.ft_parse.specs.declared.fault.ParseFault.TheVariants as fault
 use Rattle.ft_cli.specs.FormSet.{Spells}
 use Rattle.ft_cli.specs.Report.{section_word}
 use Rattle.ft_cli.specs.declared.report.Report.{Report}

@@ -8,11 +8,11 @@ use Rattle.ft_core.specs.declared.tables.Section.TheVariants as section
 use Rattle.ft_core.specs.declared.tables.VarKind.TheVariants.{Mon}
 use Rattle.ft_core.specs.Kinds.{same_kind}
 use Rattle.ft_base.specs.declared.place.Place.{Place}
-use Rattle.ft_parse.specs.declared.stop.LimitWord.{LimitWord}
-use Rattle.ft_parse.specs.declared.stop.LimitWord.TheVariants as limit
-use Rattle.ft_parse.specs.declared.stop.ParseFault.{ParseFault}
-use Rattle.ft_parse.specs.declared.stop.ParseFault.TheVariants as fault
-use Rattle.ft_tree.specs.Canonical.{canonical}
+use Rattle.ft_read.specs.declared.stop.LimitWord.{LimitWord}
+use Rattle.ft_read.specs.declared.stop.LimitWord.TheVariants as limit
+use Rattle.ft_parse.specs.declared.fault.ParseFault.{ParseFault}
+use Rattle.ft_parse.specs.declared.fault.ParseFault.TheVariants as fault
+use Rattle.ft_tree.specs.meaning.Canonical.{canonical}
 use Rattle.ft_cli.specs.declared.report.Which.{Which}
 use Rattle.ft_cli.specs.declared.report.Which.TheVariants.{Set}
 use Rattle.ft_cli.specs.declared.report.Report.{Report}

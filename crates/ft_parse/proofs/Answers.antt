@@ -1,15 +1,15 @@
 -- What reading a set's lexemes answers, in the grammar's words.
 use Rattle.std.proofs.Common.{◌≡◌, ◌∙◌, ◌⊎◌, inl, inr, ℕ, suc, Bool, true, false, List, [], ◌∷◌, ◌++◌, Option, Some, None, Ok, Err, refl, sym, ap, append_assoc, subst}
 use Rattle.std.proofs.lemmas.List.{append-nil, append_cancel_right}
-use Rattle.ft_parse.specs.Lexeme.{Lexeme, lexemes_of}
-use Rattle.ft_parse.specs.Language.{Plain, Step, lexemes, step}
-use Rattle.ft_parse.specs.Items.{set}
-use Rattle.ft_parse.specs.Parse.{GoesOn}
-use Rattle.ft_parse.specs.Reading.{Outcome, Seen, seen}
-use Rattle.ft_parse.specs.ReadItems.{set_by}
+use Rattle.ft_read.specs.meaning.Lexeme.{Lexeme, lexemes_of}
+use Rattle.ft_parse.specs.meaning.Language.{Plain, Step, lexemes, step}
+use Rattle.ft_parse.specs.meaning.Items.{set}
+use Rattle.ft_parse.specs.meaning.Parse.{GoesOn}
+use Rattle.ft_read.specs.parsers.Combinators.{Outcome, Seen, seen}
+use Rattle.ft_parse.specs.parsers.Items.{set_by}
 use Rattle.ft_parse.specs.declared.parts.Parts.{Parts}
-use Rattle.ft_parse.specs.declared.stop.Pass.{Pass}
-use Rattle.ft_parse.specs.declared.stop.Stop.TheVariants.{Syntax, Limit, NoMemory}
+use Rattle.ft_read.specs.declared.stop.Pass.{Pass}
+use Rattle.ft_read.specs.declared.stop.Stop.TheVariants.{Syntax, Limit, NoMemory}
 use Rattle.std.specs.Bool.{MatchBool}
 use Rattle.ft_lex.specs.declared.token.Token.{Token}
 use Rattle.ft_lex.specs.Tokens.{AreTokensFrom, IsTokens, is_last}

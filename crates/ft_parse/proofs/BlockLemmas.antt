@@ -12,25 +12,29 @@ use Rattle.ft_tree.specs.declared.item.Row.{Row}
 use Rattle.ft_tree.specs.declared.item.SectionWord.{SectionWord}
 use Rattle.ft_tree.specs.declared.item.VarWord.{VarWord}
 use Rattle.ft_tree.specs.declared.item.Word.{Word}
-use Rattle.ft_tree.specs.Limits.{Sort, blocks, clauses, constants, memories, tables, types, variables}
-use Rattle.ft_parse.specs.Lexeme.{Lexeme, as_name, as_word}
-use Rattle.ft_parse.specs.Language.{no_pass}
-use Rattle.ft_parse.specs.Limit.{alone, counted, counted_at, is_full, no_more_facts}
-use Rattle.ft_parse.specs.Items.{as_map, as_moment, as_plain, as_side, as_start, as_truth, as_var_word, inner_variable}
-use Rattle.ft_parse.specs.Expressions.{or_else}
-use Rattle.ft_parse.specs.ReadItems.{as_fact_word, block_by, bound_by, clause_by, constant_by, declared_by, fact_name_by, fact_part_by, grid_by}
-use Rattle.ft_parse.specs.ReadItems.{header_by, held_by, hyst_by, is_item_start, item_part_by, kind_of_name_by, kind_part_by, listed_by, members_by}
-use Rattle.ft_parse.specs.ReadItems.{minus_bound_by, more_items_by, number_bound_by, plain_bound_by, range_after_by, range_type_by, row_by}
-use Rattle.ft_parse.specs.ReadItems.{several_by, sided_by, signed_number_by, table_by, type_item_by, upper_by, value_by, variable_by, vector_grid_by}
-use Rattle.ft_parse.specs.ReadItems.{vrow_by}
-use Rattle.ft_parse.specs.Reading.{Seen, begins, can, go_on, is_some, many}
-use Rattle.ft_parse.specs.Steps.{one_more}
-use Rattle.ft_parse.specs.declared.parts.SectionAt.{SectionAt}
-use Rattle.ft_parse.specs.declared.stop.LimitWord.{LimitWord}
-use Rattle.ft_parse.specs.declared.stop.LimitWord.TheVariants as limit
+use Rattle.ft_tree.specs.meaning.Limits.{Sort, blocks, clauses, constants, memories, tables, types, variables}
+use Rattle.ft_read.specs.meaning.Lexeme.{Lexeme, as_name, as_word}
+use Rattle.ft_read.specs.meaning.Limit.{no_pass, alone, counted, counted_at}
+use Rattle.ft_parse.specs.meaning.Room.{is_full, no_more_facts}
+use Rattle.ft_read.specs.meaning.Choices.{as_map, as_moment, as_plain, as_side, as_start, as_truth, as_var_word}
+use Rattle.ft_parse.specs.meaning.Items.{inner_variable}
+use Rattle.ft_read.specs.meaning.Operators.{or_else}
+use Rattle.ft_parse.specs.parsers.Items.{as_fact_word, block_by, clause_by, constant_by, declared_by, fact_name_by, fact_part_by, grid_by}
+use Rattle.ft_parse.specs.parsers.Items.{header_by, held_by, hyst_by, is_item_start, item_part_by, listed_by, members_by, more_items_by}
+use Rattle.ft_parse.specs.parsers.Items.{range_type_by, row_by, several_by, sided_by, signed_number_by, table_by, type_item_by}
+use Rattle.ft_parse.specs.parsers.Items.{variable_by, vector_grid_by, vrow_by}
+use Rattle.ft_read.specs.parsers.Parts.{bound_by, kind_of_name_by, kind_part_by, minus_bound_by, number_bound_by, plain_bound_by}
+use Rattle.ft_read.specs.parsers.Parts.{range_after_by, upper_by, value_by}
+use Rattle.ft_read.specs.parsers.Combinators.{Seen, begins, can, go_on, is_some}
+use Rattle.ft_parse.specs.parsers.Repetition.{many}
+use Rattle.ft_parse.specs.parsers.Steps.{one_more}
+use Rattle.ft_read.specs.declared.parts.SectionAt.{SectionAt}
+use Rattle.ft_read.specs.declared.stop.LimitWord.{LimitWord}
+use Rattle.ft_read.specs.declared.stop.LimitWord.TheVariants as limit
 use Rattle.ft_parse.proofs.Shorter.{Keeps, Shortens, either-keeps, either-shortens, ended, gives, keeps, less, part-then, token, turn}
 use Rattle.ft_parse.proofs.LevelLemmas.{expression-shortens}
-use Rattle.ft_parse.proofs.ListLemmas.{begin, entries-shortens, name-shortens, names-shortens, next, number-shortens, sign-shortens, word-shortens}
+use Rattle.ft_parse.proofs.ListLemmas.{begin, entries-shortens, name-shortens, names-shortens, next, number-shortens, sign-shortens}
+use Rattle.ft_parse.proofs.ListLemmas.{word-shortens}
 use Rattle.ft_parse.proofs.TableLemmas.{row-shortens, several-end, several-is, several-less, several-shortens, several-turn, vrow-shortens}
 
 -- either of two tests, on the first token

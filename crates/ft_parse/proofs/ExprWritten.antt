@@ -15,27 +15,32 @@ use Rattle.ft_tree.specs.declared.expr.Expr.{Expr}
 use Rattle.ft_tree.specs.declared.expr.Expr.TheVariants as expr
 use Rattle.ft_tree.specs.declared.level.Level.{Level}
 use Rattle.ft_tree.specs.declared.level.Level.TheVariants.{Disjunction, Conjunction, Negation, Comparison, Sum, Product, Unary, Atom}
-use Rattle.ft_tree.specs.Expression.{Spelled, expr_pieces, operand, spelled, spells, truth_word}
-use Rattle.ft_tree.specs.Expression
-use Rattle.ft_tree.specs.Level.{is_looser, left_level, op_level, op_sign, rank, right_level}
-use Rattle.ft_tree.specs.Limits.{Nested, is_expr, is_lawful, nested, nests, operand_depth}
-use Rattle.ft_tree.specs.Line
-use Rattle.ft_tree.specs.Line.{Piece}
-use Rattle.ft_tree.specs.Tokens.{Shape, kind_of, piece_shape}
-use Rattle.ft_tree.specs.ExprParts.{expr_induction, lawful-Num, lawful-Name, lawful-Prev, lawful-Age, lawful-Not, lawful-Neg, lawful-Two}
-use Rattle.ft_tree.specs.ExprParts.{spelled-Num, spelled-Name, spelled-Truth, spelled-Prev, spelled-Age, spelled-Not, spelled-Neg, spelled-Two}
-use Rattle.ft_parse.specs.Lexeme.{Lexeme, as_name, as_sign, as_word}
-use Rattle.ft_parse.specs.Language.{Language, Step, either, lexemes, nothing, token}
-use Rattle.ft_parse.specs.Limit.{opening, own_pass, within}
-use Rattle.ft_parse.specs.Expressions.{Nest, as_and, as_or, as_product, as_relation, as_simple, as_sum, atom, chain, comparison, conjunction, disjunction, expression, group, history, negation, negated, prefixed, product, right_of, signed, sum, two, unary, whole}
-use Rattle.ft_parse.specs.Expressions
-use Rattle.ft_tree.specs.Bare.{bare_expr, start}
-use Rattle.ft_parse.specs.declared.parts.Entry.{Entry}
-use Rattle.ft_parse.specs.declared.parts.Operator.{Operator}
+use Rattle.ft_tree.specs.meaning.Expression.{Spelled, expr_pieces, operand, spelled, spells, truth_word}
+use Rattle.ft_tree.specs.meaning.Expression
+use Rattle.ft_tree.specs.meaning.Level.{is_looser, left_level, op_level, op_sign, rank, right_level}
+use Rattle.ft_tree.specs.meaning.Limits.{Nested, is_expr, is_lawful, nested, nests, operand_depth}
+use Rattle.ft_tree.specs.meaning.Line
+use Rattle.ft_tree.specs.meaning.Line.{Piece}
+use Rattle.ft_tree.specs.laws.Tokens.{Shape, kind_of, piece_shape}
+use Rattle.ft_tree.specs.laws.ExprParts.{expr_induction, lawful-Num, lawful-Name, lawful-Prev, lawful-Age, lawful-Not, lawful-Neg}
+use Rattle.ft_tree.specs.laws.ExprParts.{lawful-Two, spelled-Num, spelled-Name, spelled-Truth, spelled-Prev, spelled-Age, spelled-Not}
+use Rattle.ft_tree.specs.laws.ExprParts.{spelled-Neg, spelled-Two}
+use Rattle.ft_read.specs.meaning.Lexeme.{Lexeme, as_name, as_sign, as_word}
+use Rattle.ft_parse.specs.meaning.Language.{Language, Step, either, lexemes, nothing, token}
+use Rattle.ft_read.specs.meaning.Limit.{opening, own_pass, within}
+use Rattle.ft_parse.specs.meaning.Expressions.{Nest, atom, chain, comparison, conjunction, disjunction, expression, group, history}
+use Rattle.ft_parse.specs.meaning.Expressions.{negation, negated, prefixed, product, right_of, signed, sum, unary, whole}
+use Rattle.ft_read.specs.meaning.Operators.{as_and, as_or, as_product, as_relation, as_simple, as_sum, two}
+use Rattle.ft_parse.specs.meaning.Expressions
+use Rattle.ft_tree.specs.meaning.Bare.{bare_expr, start}
+use Rattle.ft_read.specs.declared.parts.Entry.{Entry}
+use Rattle.ft_read.specs.declared.parts.Operator.{Operator}
 use Rattle.ft_parse.proofs.Lifts.{after, after-is, chain-more, lift, part_at}
 use Rattle.ft_parse.proofs.Marks.{mark, name-kind, name-own, number-kind, number-own, reads-sign, reads-word, value-back}
-use Rattle.ft_parse.proofs.SameLemmas.{bare-Num, bare-Name, bare-Truth, bare-Prev, bare-Age, bare-Not, bare-Neg, bare-Two, nested-Num, nested-Name, nested-Truth, nested-Prev, nested-Age, nested-Not, nested-Neg, nested-Two}
-use Rattle.ft_parse.proofs.Writes.{Spelt, Writes, head_or, left, lexeme_at, made, next, none, right, shape, shaped, shapes, and_then, weaker, wider, Within}
+use Rattle.ft_parse.proofs.SameLemmas.{bare-Num, bare-Name, bare-Truth, bare-Prev, bare-Age, bare-Not, bare-Neg, bare-Two, nested-Num}
+use Rattle.ft_parse.proofs.SameLemmas.{nested-Name, nested-Truth, nested-Prev, nested-Age, nested-Not, nested-Neg, nested-Two}
+use Rattle.ft_parse.proofs.Writes.{Spelt, Writes, head_or, left, lexeme_at, made, next, none, right, shape, shaped, shapes, and_then}
+use Rattle.ft_parse.proofs.Writes.{weaker, wider, Within}
 
 rank-small : (ℓ : Level) → rank ℓ ≤ 7
 rank-small Disjunction = omega arith

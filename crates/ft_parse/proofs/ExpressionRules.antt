@@ -8,21 +8,23 @@ use Rattle.ft_tree.specs.declared.expr.Op.{Op}
 use Rattle.ft_tree.specs.declared.expr.Op.TheVariants.{Or, And, Eq, Ne, Lt, Le, Gt, Ge, Add, Sub, Mul, Div}
 use Rattle.ft_tree.specs.declared.expr.Expr.{Expr}
 use Rattle.ft_tree.specs.declared.expr.Expr.TheVariants as expr
-use Rattle.ft_parse.specs.Lexeme.{Lexeme, as_name, as_sign, as_word}
-use Rattle.ft_parse.specs.Language.{Language, Passes, either, nothing, repeated, token, ◌▷◌}
-use Rattle.ft_parse.specs.Limit.{opening, within}
-use Rattle.ft_parse.specs.Expressions.{Nest, as_and, as_or, as_product, as_relation, as_simple, as_sum, atom, chain, comparison, conjunction}
-use Rattle.ft_parse.specs.Expressions.{disjunction, group, history, negated, negation, operator, prefixed, product, right_of}
-use Rattle.ft_parse.specs.Expressions.{signed, sum, two, unary}
-use Rattle.ft_parse.specs.Reading.{Parser, can, either_by, give, is_some, many, read_token, ◌▶◌}
-use Rattle.ft_parse.specs.ReadExpressions.{atom_by, chain_by, comparison_by, conjunction_by, disjunction_by, group_by}
-use Rattle.ft_parse.specs.ReadExpressions.{history_by, negation_by, prefixed_by, product_by, right_by, sum_by, unary_by}
-use Rattle.ft_parse.specs.declared.parts.Entry.{Entry}
-use Rattle.ft_parse.specs.declared.parts.Operator.{Operator}
-use Rattle.ft_parse.proofs.Forms.{Form, all_differ, any, apart, apart-under, Looks, itself-bytes, looks-map, looks-name, looks-number, looks-or}
-use Rattle.ft_parse.proofs.Forms.{looks-sign, looks-word, sign, some_name, some_number, under-both, word}
+use Rattle.ft_read.specs.meaning.Lexeme.{Lexeme, as_name, as_sign, as_word}
+use Rattle.ft_parse.specs.meaning.Language.{Language, either, nothing, repeated, token, ◌▷◌}
+use Rattle.ft_read.specs.meaning.Limit.{Passes, opening, within}
+use Rattle.ft_parse.specs.meaning.Expressions.{Nest, atom, chain, comparison, conjunction, disjunction, group, history, negated, negation}
+use Rattle.ft_parse.specs.meaning.Expressions.{prefixed, product, right_of, signed, sum, unary}
+use Rattle.ft_read.specs.meaning.Operators.{as_and, as_or, as_product, as_relation, as_simple, as_sum, operator, two}
+use Rattle.ft_read.specs.parsers.Combinators.{Parser, can, either_by, give, is_some, read_token, ◌▶◌}
+use Rattle.ft_parse.specs.parsers.Repetition.{many}
+use Rattle.ft_parse.specs.parsers.Expressions.{atom_by, chain_by, comparison_by, conjunction_by, disjunction_by, group_by, history_by}
+use Rattle.ft_parse.specs.parsers.Expressions.{negation_by, prefixed_by, product_by, right_by, sum_by, unary_by}
+use Rattle.ft_read.specs.declared.parts.Entry.{Entry}
+use Rattle.ft_read.specs.declared.parts.Operator.{Operator}
+use Rattle.ft_parse.proofs.Forms.{Form, all_differ, any, apart, apart-under, Looks, itself-bytes, looks-map, looks-name, looks-number}
+use Rattle.ft_parse.proofs.Forms.{looks-or, looks-sign, looks-word, sign, some_name, some_number, under-both, word}
 use Rattle.ft_parse.proofs.Many.{Heads}
-use Rattle.ft_parse.proofs.Rule.{Rule, next, heads-either, heads-then, heads-token, heads-weaker, rule-either, rule-give, rule-many, rule-next, rule-then, rule-token, rule-weaker}
+use Rattle.ft_parse.proofs.Rule.{Rule, next, heads-either, heads-then, heads-token, heads-weaker, rule-either, rule-give, rule-many}
+use Rattle.ft_parse.proofs.Rule.{rule-next, rule-then, rule-token, rule-weaker}
 use Rattle.ft_parse.proofs.Whole.{Apart, Under, calms-by-heads, calms-either, calms-many, calms-nothing, never}
 
 -- some place, for the texts that show that a part has one

@@ -5,15 +5,15 @@ use Rattle.std.proofs.lemmas.List.{append-nil, map-append}
 use Rattle.ft_base.specs.declared.place.Place.{Place}
 use Rattle.ft_lex.specs.Tokens.{OneTokens}
 use Rattle.ft_tree.specs.declared.tree.Tree.{Tree}
-use Rattle.ft_parse.specs.Lexeme.{Lexeme, lexemes_of}
-use Rattle.ft_parse.specs.Language.{Plain, Step, lexemes, step}
-use Rattle.ft_parse.specs.Items.{set}
-use Rattle.ft_parse.specs.Laws.{FaultOrTree, OneFault, OneTree}
-use Rattle.ft_parse.specs.Parse.{AreLexemes, GoesOn, IsLimitFault, IsSyntaxFault, Spells, parts_of}
+use Rattle.ft_read.specs.meaning.Lexeme.{Lexeme, lexemes_of}
+use Rattle.ft_parse.specs.meaning.Language.{Plain, Step, lexemes, step}
+use Rattle.ft_parse.specs.meaning.Items.{set}
+use Rattle.ft_parse.specs.laws.Uniqueness.{FaultOrTree, OneFault, OneTree}
+use Rattle.ft_parse.specs.meaning.Parse.{AreLexemes, GoesOn, IsLimitFault, IsSyntaxFault, Spells, parts_of}
 use Rattle.ft_parse.specs.declared.parts.Parts.{Parts}
-use Rattle.ft_parse.specs.declared.stop.ParseFault.{ParseFault}
-use Rattle.ft_parse.specs.declared.stop.ParseFault.TheVariants.{Syntax, Limit, NoMemory}
-use Rattle.ft_parse.specs.declared.stop.Pass.{Pass}
+use Rattle.ft_parse.specs.declared.fault.ParseFault.{ParseFault}
+use Rattle.ft_parse.specs.declared.fault.ParseFault.TheVariants.{Syntax, Limit, NoMemory}
+use Rattle.ft_read.specs.declared.stop.Pass.{Pass}
 use Rattle.ft_parse.proofs.ParsingLemmas.{read-only-tree}
 
 -- where two lists are cut before an element, they are cut at the same one, or one cut stands before the other

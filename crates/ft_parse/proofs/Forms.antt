@@ -9,10 +9,10 @@ use Rattle.std.specs.Str.{bytes_eq}
 use Rattle.ft_lex.specs.declared.token.TokenKind.{TokenKind}
 use Rattle.ft_lex.specs.declared.token.TokenKind.TheVariants as kind
 use Rattle.ft_lex.specs.Tokens.{is_sign_kind, is_word_kind}
-use Rattle.ft_parse.specs.Lexeme.{Lexeme, as_end, as_name, as_number, as_sign, as_word}
-use Rattle.ft_parse.specs.Limit.{is_name_kind, is_number_kind}
-use Rattle.ft_parse.specs.Expressions.{or_else}
-use Rattle.ft_parse.specs.Reading.{can, is_some}
+use Rattle.ft_read.specs.meaning.Lexeme.{Lexeme, as_end, as_name, as_number, as_sign, as_word}
+use Rattle.ft_read.specs.meaning.Limit.{is_name_kind, is_number_kind}
+use Rattle.ft_read.specs.meaning.Operators.{or_else}
+use Rattle.ft_read.specs.parsers.Combinators.{can, is_some}
 use Rattle.ft_parse.proofs.Whole.{Apart, Under}
 
 -- a reserved word, a sign, or any token of a kind

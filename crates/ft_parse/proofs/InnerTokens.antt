@@ -13,19 +13,21 @@ use Rattle.ft_tree.specs.declared.item.Row.{Row}
 use Rattle.ft_tree.specs.declared.item.Word.{Word}
 use Rattle.ft_tree.specs.declared.item.SectionWord.{SectionWord}
 use Rattle.ft_tree.specs.declared.item.VarWord.{VarWord}
-use Rattle.ft_parse.specs.Lexeme.{Lexeme, as_end, as_name, as_sign, as_word}
-use Rattle.ft_parse.specs.Language.{Language, Passes, Step, either, no_pass, nothing, repeated, step, times, token, ◌▷◌}
-use Rattle.ft_parse.specs.Expressions.{Nest, as_and, as_or, as_product, as_relation, as_sum, atom, chain, comparison, conjunction}
-use Rattle.ft_parse.specs.Expressions.{expression, group, history, layer, negated, negation, nested, prefixed, product, right_of, signed}
-use Rattle.ft_parse.specs.Expressions.{sum, unary, whole}
-use Rattle.ft_parse.specs.Items
-use Rattle.ft_parse.specs.declared.parts.Entry.{Entry}
-use Rattle.ft_parse.specs.declared.parts.Operator.{Operator}
+use Rattle.ft_read.specs.meaning.Lexeme.{Lexeme, as_end, as_name, as_sign, as_word}
+use Rattle.ft_parse.specs.meaning.Language.{Language, Step, either, nothing, repeated, step, times, token, ◌▷◌}
+use Rattle.ft_read.specs.meaning.Limit.{Passes, no_pass}
+use Rattle.ft_parse.specs.meaning.Expressions.{Nest, atom, chain, comparison, conjunction, expression, group, history, layer, negated}
+use Rattle.ft_parse.specs.meaning.Expressions.{negation, nested, prefixed, product, right_of, signed, sum, unary, whole}
+use Rattle.ft_read.specs.meaning.Operators.{as_and, as_or, as_product, as_relation, as_sum}
+use Rattle.ft_parse.specs.meaning.Items
+use Rattle.ft_read.specs.declared.parts.Entry.{Entry}
+use Rattle.ft_read.specs.declared.parts.Operator.{Operator}
 use Rattle.ft_parse.specs.declared.parts.Parts.{Parts}
-use Rattle.ft_parse.specs.declared.parts.SectionAt.{SectionAt}
-use Rattle.ft_parse.specs.declared.stop.LimitWord.{LimitWord}
+use Rattle.ft_read.specs.declared.parts.SectionAt.{SectionAt}
+use Rattle.ft_read.specs.declared.stop.LimitWord.{LimitWord}
 use Rattle.ft_parse.proofs.ExpressionRules.{looks-and, looks-or-word, looks-product, looks-relation, looks-simple, looks-sum}
-use Rattle.ft_parse.proofs.Forms.{Form, Looks, any, looks-name, looks-number, looks-sign, looks-word, sign, some_end, some_name, some_number, word}
+use Rattle.ft_parse.proofs.Forms.{Form, Looks, any, looks-name, looks-number, looks-sign, looks-word, sign, some_end, some_name}
+use Rattle.ft_parse.proofs.Forms.{some_number, word}
 use Rattle.ft_parse.proofs.ItemRules.{looks-map-word, looks-moment, looks-plain, looks-side, looks-start, looks-truth, looks-var-word}
 
 -- each token is of an inner kind

@@ -18,35 +18,43 @@ use Rattle.ft_tree.specs.declared.item.Row.{Row}
 use Rattle.ft_tree.specs.declared.item.FactItem.TheVariants as fact
 use Rattle.ft_tree.specs.declared.item.Item.{Item}
 use Rattle.ft_tree.specs.declared.item.Item.TheVariants as item
-use Rattle.ft_tree.specs.Limits.{Sort, tables}
-use Rattle.ft_parse.specs.Lexeme.{Lexeme, as_end, as_name, as_number, as_sign, as_word}
-use Rattle.ft_parse.specs.Language.{Language, Passes, Step, either, no_pass, nothing, repeated, times, token, ◌▷◌}
-use Rattle.ft_parse.specs.Limit.{alone, counted, counted_at, is_full}
-use Rattle.ft_parse.specs.Expressions.{expression, or_else}
-use Rattle.ft_parse.specs.Items.{as_map, as_moment, as_plain, as_side, as_start, as_truth, as_var_word, block, bound, clause, constant, declared}
-use Rattle.ft_parse.specs.Items.{entries, fact_name, fact_part, grid, header, held, hyst, inner_variable, item_part, kind_of_name, kind_part, listed}
-use Rattle.ft_parse.specs.Items.{members, minus_bound, more_entries, more_items, more_names, name, names, number, number_bound, plain_bound}
-use Rattle.ft_parse.specs.Items.{range_after, range_type, row, row_word, set, setting, several, sided, sign, signed_number, table, type_item, upper}
-use Rattle.ft_parse.specs.Items.{value, variable, vector_grid, vrow, word}
-use Rattle.ft_parse.specs.Reading.{Parser, can, either_by, give, is_some, many, read_token, ◌▶◌}
-use Rattle.ft_parse.specs.ReadExpressions.{expression_by}
-use Rattle.ft_parse.specs.ReadItems.{as_fact_word, block_by, bound_by, clause_by, constant_by, declared_by, entries_by, fact_name_by, fact_part_by}
-use Rattle.ft_parse.specs.ReadItems.{grid_by, header_by, held_by, hyst_by, is_item_start, item_part_by, kind_of_name_by, kind_part_by, listed_by}
-use Rattle.ft_parse.specs.ReadItems.{members_by, minus_bound_by, more_entries_by, more_items_by, more_names_by, name_by, names_by, number_by}
-use Rattle.ft_parse.specs.ReadItems.{number_bound_by, plain_bound_by, range_after_by, range_type_by, row_by, row_word_by, set_by, setting_by}
-use Rattle.ft_parse.specs.ReadItems.{several_by, sided_by, sign_by, signed_number_by, table_by, type_item_by, upper_by, value_by, variable_by}
-use Rattle.ft_parse.specs.ReadItems.{vector_grid_by, vrow_by, word_by}
+use Rattle.ft_tree.specs.meaning.Limits.{Sort, tables}
+use Rattle.ft_read.specs.meaning.Lexeme.{Lexeme, as_end, as_name, as_number, as_sign, as_word}
+use Rattle.ft_parse.specs.meaning.Language.{Language, Step, either, nothing, repeated, times, token, ◌▷◌}
+use Rattle.ft_read.specs.meaning.Limit.{Passes, no_pass, alone, counted, counted_at}
+use Rattle.ft_parse.specs.meaning.Room.{is_full}
+use Rattle.ft_parse.specs.meaning.Expressions.{expression}
+use Rattle.ft_read.specs.meaning.Operators.{or_else}
+use Rattle.ft_read.specs.meaning.Choices.{as_map, as_moment, as_plain, as_side, as_start, as_truth, as_var_word}
+use Rattle.ft_parse.specs.meaning.Items.{block, bound, clause, constant, declared, entries, fact_name, fact_part, grid, header, held, hyst}
+use Rattle.ft_parse.specs.meaning.Items.{inner_variable, item_part, kind_of_name, kind_part, listed, members, minus_bound, more_entries}
+use Rattle.ft_parse.specs.meaning.Items.{more_items, more_names, name, names, number, number_bound, plain_bound, range_after, range_type}
+use Rattle.ft_parse.specs.meaning.Items.{row, row_word, set, setting, several, sided, sign, signed_number, table, type_item, upper, value}
+use Rattle.ft_parse.specs.meaning.Items.{variable, vector_grid, vrow, word}
+use Rattle.ft_read.specs.parsers.Combinators.{Parser, can, either_by, give, is_some, read_token, ◌▶◌}
+use Rattle.ft_parse.specs.parsers.Repetition.{many}
+use Rattle.ft_parse.specs.parsers.Expressions.{expression_by}
+use Rattle.ft_parse.specs.parsers.Items.{as_fact_word, block_by, clause_by, constant_by, declared_by, entries_by, fact_name_by}
+use Rattle.ft_parse.specs.parsers.Items.{fact_part_by, grid_by, header_by, held_by, hyst_by, is_item_start, item_part_by, listed_by}
+use Rattle.ft_parse.specs.parsers.Items.{members_by, more_entries_by, more_items_by, more_names_by, names_by, range_type_by, row_by}
+use Rattle.ft_parse.specs.parsers.Items.{row_word_by, set_by, setting_by, several_by, sided_by, signed_number_by, table_by, type_item_by}
+use Rattle.ft_parse.specs.parsers.Items.{variable_by, vector_grid_by, vrow_by}
+use Rattle.ft_read.specs.parsers.Parts.{bound_by, kind_of_name_by, kind_part_by, minus_bound_by, name_by, number_by, number_bound_by}
+use Rattle.ft_read.specs.parsers.Parts.{plain_bound_by, range_after_by, sign_by, upper_by, value_by, word_by}
 use Rattle.ft_parse.specs.declared.parts.Parts.{Parts}
-use Rattle.ft_parse.specs.declared.parts.SectionAt.{SectionAt}
-use Rattle.ft_parse.specs.declared.stop.LimitWord.{LimitWord}
-use Rattle.ft_parse.specs.declared.stop.LimitWord.TheVariants as limit
-use Rattle.ft_parse.proofs.ExpressionRules.{apart-first, choose, heads-first, heads-one, heads-two, here, itself, or_forms, rule-done, rule-map}
-use Rattle.ft_parse.proofs.ExpressionRules.{some_name_token, some_number_token, some_sign, some_word, under-left, under-right, under-same}
+use Rattle.ft_read.specs.declared.parts.SectionAt.{SectionAt}
+use Rattle.ft_read.specs.declared.stop.LimitWord.{LimitWord}
+use Rattle.ft_read.specs.declared.stop.LimitWord.TheVariants as limit
+use Rattle.ft_parse.proofs.ExpressionRules.{apart-first, choose, heads-first, heads-one, heads-two, here, itself, or_forms, rule-done}
+use Rattle.ft_parse.proofs.ExpressionRules.{rule-map, some_name_token, some_number_token, some_sign, some_word, under-left, under-right}
+use Rattle.ft_parse.proofs.ExpressionRules.{under-same}
 use Rattle.ft_parse.proofs.Forms as forms
-use Rattle.ft_parse.proofs.Forms.{Form, Looks, all_differ, any, apart, looks-end, looks-map, looks-name, looks-number, looks-or, looks-sign, looks-word, some_end, some_name, some_number, under-both}
+use Rattle.ft_parse.proofs.Forms.{Form, Looks, all_differ, any, apart, looks-end, looks-map, looks-name, looks-number, looks-or}
+use Rattle.ft_parse.proofs.Forms.{looks-sign, looks-word, some_end, some_name, some_number, under-both}
 use Rattle.ft_parse.proofs.Many.{Heads}
 use Rattle.ft_parse.proofs.NestedRules.{rule-expression}
-use Rattle.ft_parse.proofs.Rule.{Rule, before, heads-either, heads-then, heads-token, heads-weaker, next, rule-either, rule-give, rule-many, rule-token, rule-weaker}
+use Rattle.ft_parse.proofs.Rule.{Rule, before, heads-either, heads-then, heads-token, heads-weaker, next, rule-either, rule-give}
+use Rattle.ft_parse.proofs.Rule.{rule-many, rule-token, rule-weaker}
 use Rattle.ft_parse.proofs.Whole.{Apart, Under, calms-by-heads, calms-many, calms-nothing, never}
 
 -- a part that may go on, and then a token with which it doesn't

@@ -25,24 +25,32 @@ use Rattle.ft_tree.specs.declared.item.FactItem.{FactItem}
 use Rattle.ft_tree.specs.declared.item.FactItem.TheVariants as fact
 use Rattle.ft_tree.specs.declared.item.Item.{Item}
 use Rattle.ft_tree.specs.declared.item.Item.TheVariants as item
-use Rattle.ft_tree.specs.Expression.{expr_pieces, truth_word}
-use Rattle.ft_tree.specs.Limits.{are_entries, are_listed, constants, types, variables, memories, tables, clauses, blocks, facts_of, is_bound, is_count, is_expr, is_fact, is_hold, is_init, is_item, is_kind, is_number, is_row, is_side, is_vrow, is_word, sort_of}
-use Rattle.ft_tree.specs.Line
-use Rattle.ft_tree.specs.Line.{Line, Piece, outer}
-use Rattle.ft_tree.specs.Lines.{body_lines, bound_pieces, brace_line, ended, exprs_line, exprs_pieces, fact_line, head_line, item_lines, kind_pieces, moment_text, names_pieces, nat_pieces, one_line, part_lines, plain_text, row_line, section_text, sign_pieces, table_head, table_lines, var_pieces, vector_head, vrow_line}
-use Rattle.ft_tree.specs.Tokens.{Shape, kind_of}
-use Rattle.ft_parse.specs.Lexeme.{as_word}
-use Rattle.ft_parse.specs.Language.{Language, either, no_pass, nothing, token, ◌▷◌}
-use Rattle.ft_parse.specs.Limit.{counted, counted_at, is_full, no_more_facts}
-use Rattle.ft_parse.specs.Expressions.{expression}
-use Rattle.ft_parse.specs.Items
-use Rattle.ft_tree.specs.Bare.{bare_bound, bare_expr, bare_fact, bare_item, bare_kind, bare_row, bare_vrow, bare_word, start}
-use Rattle.ft_parse.specs.declared.parts.SectionAt.{SectionAt}
-use Rattle.ft_parse.specs.declared.stop.LimitWord.TheVariants as limit
+use Rattle.ft_tree.specs.meaning.Expression.{expr_pieces, truth_word}
+use Rattle.ft_tree.specs.meaning.Limits.{are_entries, are_listed, constants, types, variables, memories, tables, clauses, blocks, facts_of}
+use Rattle.ft_tree.specs.meaning.Limits.{is_bound, is_count, is_expr, is_fact, is_hold, is_init, is_item, is_kind, is_number, is_row}
+use Rattle.ft_tree.specs.meaning.Limits.{is_side, is_vrow, is_word, sort_of}
+use Rattle.ft_tree.specs.meaning.Line
+use Rattle.ft_tree.specs.meaning.Line.{Line, Piece, outer}
+use Rattle.ft_tree.specs.meaning.Lines.{body_lines, bound_pieces, brace_line, ended, exprs_line, exprs_pieces, fact_line, head_line}
+use Rattle.ft_tree.specs.meaning.Lines.{item_lines, kind_pieces, moment_text, names_pieces, nat_pieces, one_line, part_lines, plain_text}
+use Rattle.ft_tree.specs.meaning.Lines.{row_line, section_text, sign_pieces, table_head, table_lines, var_pieces, vector_head, vrow_line}
+use Rattle.ft_tree.specs.laws.Tokens.{Shape, kind_of}
+use Rattle.ft_read.specs.meaning.Lexeme.{as_word}
+use Rattle.ft_parse.specs.meaning.Language.{Language, either, nothing, token, ◌▷◌}
+use Rattle.ft_read.specs.meaning.Limit.{no_pass, counted, counted_at}
+use Rattle.ft_parse.specs.meaning.Room.{is_full, no_more_facts}
+use Rattle.ft_parse.specs.meaning.Expressions.{expression}
+use Rattle.ft_parse.specs.meaning.Items
+use Rattle.ft_tree.specs.meaning.Bare.{bare_bound, bare_expr, bare_fact, bare_item, bare_kind, bare_row, bare_vrow, bare_word, start}
+use Rattle.ft_read.specs.declared.parts.SectionAt.{SectionAt}
+use Rattle.ft_read.specs.declared.stop.LimitWord.TheVariants as limit
 use Rattle.ft_parse.proofs.ExprWritten.{Same, expr-written}
 use Rattle.ft_parse.proofs.Marks.{mark}
-use Rattle.ft_parse.proofs.PartsWritten.{a-counted, a-name, a-number, a-sign, before-one, bound-written, count-most, entries-written, kind-written, names-written, one-of, plain-written, same-bound, several-written, sh, skip-sign, skip-word, two-shapes, upper-written, value-written}
+use Rattle.ft_parse.proofs.PartsWritten.{a-counted, a-name, a-number, a-sign, before-one, bound-written, count-most, entries-written}
+use Rattle.ft_parse.proofs.PartsWritten.{kind-written, names-written, one-of, plain-written, same-bound, several-written, sh, skip-sign}
+use Rattle.ft_parse.proofs.PartsWritten.{skip-word, two-shapes, upper-written, value-written}
 use Rattle.ft_parse.proofs.Writes.{Writes, and_then, left, made, next, none, right, shaped, shapes, weaker}
+use Rattle.ft_read.specs.meaning.Choices.{as_map, as_side, as_start, as_var_word, as_moment}
 
 -- the shapes of lines
 unfoldable pub line_shapes : List Line → List Shape
@@ -129,13 +137,13 @@ module _ (before : List Item) where
   typed = Items.type_item before
 
   abbrev worded : Language Item
-  worded = token Items.as_var_word no_pass ▷ Items.variable before
+  worded = token as_var_word no_pass ▷ Items.variable before
 
   abbrev sides : Language Item
-  sides = token Items.as_side no_pass ▷ Items.sided before
+  sides = token as_side no_pass ▷ Items.sided before
 
   abbrev maps : Language Item
-  maps = token Items.as_map no_pass ▷ Items.table before
+  maps = token as_map no_pass ▷ Items.table before
 
   abbrev late : Language Item
   late = either (Items.clause before) (Items.block before)
@@ -267,7 +275,7 @@ module _ (before : List Item) where
 
   -- the word of a side or section
   side-mark : {at : ℕ} (side : SectionWord) → is_side side ≡ true
-      → Writes (token Items.as_side no_pass) at (sh (section_text side) ∷ []) (λ s. s.word ≡ side)
+      → Writes (token as_side no_pass) at (sh (section_text side) ∷ []) (λ s. s.word ≡ side)
   unfolding is_reserved_word reserved_words
   side-mark section.Req h =
       mark (codes "req") token_kind.Word refl (λ place. (record { word = section.Req; place = place }, refl, refl, refl))
@@ -276,7 +284,7 @@ module _ (before : List Item) where
   side-mark section.In h = absurd (true≢false (sym h))
   side-mark section.Out h = absurd (true≢false (sym h))
 
-  map-mark : {at : ℕ} (s : SectionWord) → is_side s ≡ false → Writes (token Items.as_map no_pass) at (sh (section_text s) ∷ [])
+  map-mark : {at : ℕ} (s : SectionWord) → is_side s ≡ false → Writes (token as_map no_pass) at (sh (section_text s) ∷ [])
       (λ x. x.word ≡ s)
   unfolding is_reserved_word reserved_words
   map-mark section.In h =
@@ -385,7 +393,7 @@ module _ (before : List Item) where
       skip-word (codes "ms") refl (λ _. skip-sign (codes ")") refl (λ _. skip-sign (codes ";") refl (λ _.
       none (λ i. item.Held (is i) (bare-text w name text i) (same i) (same_hold i)))))))))))))))
 
-  start-written : {at : ℕ} (begins : Bool) → Writes (token Items.as_start no_pass) at (sh (truth_word begins) ∷ [])
+  start-written : {at : ℕ} (begins : Bool) → Writes (token as_start no_pass) at (sh (truth_word begins) ∷ [])
       (λ b. b ≡ begins)
   unfolding is_reserved_word reserved_words
   start-written true = mark (codes "true") token_kind.Word refl (λ place. (true, refl, refl, refl))
@@ -564,7 +572,7 @@ module _ (before : List Item) where
       and_then {G = λ rs. map bare_vrow rs ≡ map bare_vrow rows} (vrows-written rows sized all) (λ rs same_rows.
       skip-sign (codes "}") refl (λ _. none (λ i. item.Vector (is i) (same i) (same_rows i)))))))))))
 
-  moment-written : {at : ℕ} (m : NatWord) → Writes (token Items.as_moment no_pass) at (sh (moment_text m) ∷ []) (λ x. x ≡ m)
+  moment-written : {at : ℕ} (m : NatWord) → Writes (token as_moment no_pass) at (sh (moment_text m) ∷ []) (λ x. x ≡ m)
   unfolding is_reserved_word reserved_words
   moment-written moment.First = mark (codes "first") token_kind.Word refl (λ place. (moment.First, refl, refl, refl))
   moment-written moment.Always = mark (codes "always") token_kind.Word refl (λ place. (moment.Always, refl, refl, refl))

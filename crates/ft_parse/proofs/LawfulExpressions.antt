@@ -10,19 +10,21 @@ use Rattle.ft_tree.specs.declared.expr.Expr.{Expr}
 use Rattle.ft_tree.specs.declared.expr.Expr.TheVariants as expr
 use Rattle.ft_tree.specs.declared.level.Level.{Level}
 use Rattle.ft_tree.specs.declared.level.Level.TheVariants.{Disjunction, Conjunction, Negation, Comparison, Sum, Product, Unary, Atom}
-use Rattle.ft_tree.specs.Level.{left_of, op_level, rank, tighter}
+use Rattle.ft_tree.specs.meaning.Level.{left_of, op_level, rank, tighter}
 use Rattle.ft_base.specs.Names.{is_name}
-use Rattle.ft_tree.specs.Limits.{is_expr}
-use Rattle.ft_parse.specs.Lexeme.{Lexeme, as_sign, as_word}
-use Rattle.ft_parse.specs.Language.{Language, Passes, Step, either, nothing, repeated, step, times, token, ◌▷◌}
-use Rattle.ft_parse.specs.Limit.{is_extra, is_late, opening, within}
-use Rattle.ft_parse.specs.Expressions.{Nest, as_and, as_or, as_product, as_relation, as_simple, as_sum, atom, chain, comparison, conjunction}
-use Rattle.ft_parse.specs.Expressions.{expression, group, history, layer, negated, negation, nested, operator, prefixed, product, right_of, signed}
-use Rattle.ft_parse.specs.Expressions.{sum, two, unary, whole}
-use Rattle.ft_parse.specs.declared.parts.Entry.{Entry}
-use Rattle.ft_parse.specs.declared.parts.Operator.{Operator}
-use Rattle.ft_parse.proofs.Fits.{Fit, fit-age, fit-expr, fit-group, fit-looser, fit-more, fit-name, fit-neg, fit-not, fit-num, fit-prev, fit-truth, fit-two}
-use Rattle.ft_parse.proofs.RealTokens.{AllGood, Owns, Reads, first-none, good-parts, reads-any, reads-map, reads-name, reads-number, reads-or, so-none}
+use Rattle.ft_tree.specs.meaning.Limits.{is_expr}
+use Rattle.ft_read.specs.meaning.Lexeme.{Lexeme, as_sign, as_word}
+use Rattle.ft_parse.specs.meaning.Language.{Language, Step, either, nothing, repeated, step, times, token, ◌▷◌}
+use Rattle.ft_read.specs.meaning.Limit.{Passes, is_extra, is_late, opening, within}
+use Rattle.ft_parse.specs.meaning.Expressions.{Nest, atom, chain, comparison, conjunction, expression, group, history, layer, negated}
+use Rattle.ft_parse.specs.meaning.Expressions.{negation, nested, prefixed, product, right_of, signed, sum, unary, whole}
+use Rattle.ft_read.specs.meaning.Operators.{as_and, as_or, as_product, as_relation, as_simple, as_sum, operator, two}
+use Rattle.ft_read.specs.declared.parts.Entry.{Entry}
+use Rattle.ft_read.specs.declared.parts.Operator.{Operator}
+use Rattle.ft_parse.proofs.Fits.{Fit, fit-age, fit-expr, fit-group, fit-looser, fit-more, fit-name, fit-neg, fit-not, fit-num, fit-prev}
+use Rattle.ft_parse.proofs.Fits.{fit-truth, fit-two}
+use Rattle.ft_parse.proofs.RealTokens.{AllGood, Owns, Reads, first-none, good-parts, reads-any, reads-map, reads-name, reads-number}
+use Rattle.ft_parse.proofs.RealTokens.{reads-or, so-none}
 
 -- within the first 1,000 tokens of the expression, and no entry too many
 abbrev pub Stands : Entry → ℕ → List Step → Type 0

@@ -19,22 +19,26 @@ use Rattle.ft_tree.specs.declared.item.Row.{Row}
 use Rattle.ft_tree.specs.declared.item.FactItem.{FactItem}
 use Rattle.ft_tree.specs.declared.item.Item.{Item}
 use Rattle.ft_tree.specs.declared.item.Item.TheVariants as item
-use Rattle.ft_tree.specs.Limits.{IsSet, Sort, are_entries, are_listed, blocks, clauses, constants, facts_of, is_bound, is_count, is_expr, is_fact}
+use Rattle.ft_tree.specs.meaning.Limits.{IsSet, Sort, are_entries, are_listed, blocks, clauses, constants, facts_of, is_bound, is_count}
+use Rattle.ft_tree.specs.meaning.Limits.{is_expr, is_fact, is_hold, is_init, is_init_value, is_item, is_kind, is_number, is_option}
+use Rattle.ft_tree.specs.meaning.Limits.{is_plain, is_row, is_same_sort, is_side, is_vrow, is_word, limit_of, memories, sort_of, tables}
+use Rattle.ft_tree.specs.meaning.Limits.{types, variables}
 use Rattle.ft_base.specs.Names.{is_name}
-use Rattle.ft_tree.specs.Limits.{is_hold, is_init, is_init_value, is_item, is_kind, is_number, is_option, is_plain, is_row, is_same_sort}
-use Rattle.ft_tree.specs.Limits.{is_side, is_vrow, is_word, limit_of, memories, sort_of, tables, types, variables}
-use Rattle.ft_parse.specs.Lexeme.{Lexeme, as_end, as_name, as_sign, as_word}
-use Rattle.ft_parse.specs.Language.{Language, Passes, Plain, Step, either, lexemes, no_pass, nothing, repeated, step, times, token, ◌▷◌}
-use Rattle.ft_parse.specs.Limit.{alone, counted, counted_at, is_full, no_more_facts}
-use Rattle.ft_parse.specs.Expressions.{expression}
-use Rattle.ft_parse.specs.Items
-use Rattle.ft_parse.specs.Parse.{AreLexemes}
+use Rattle.ft_read.specs.meaning.Lexeme.{Lexeme, as_end, as_name, as_sign, as_word}
+use Rattle.ft_parse.specs.meaning.Language.{Language, Plain, Step, either, lexemes, nothing, repeated, step, times, token, ◌▷◌}
+use Rattle.ft_read.specs.meaning.Limit.{Passes, no_pass, alone, counted, counted_at}
+use Rattle.ft_parse.specs.meaning.Room.{is_full, no_more_facts}
+use Rattle.ft_parse.specs.meaning.Expressions.{expression}
+use Rattle.ft_parse.specs.meaning.Items
+use Rattle.ft_parse.specs.meaning.Parse.{AreLexemes}
 use Rattle.ft_parse.specs.declared.parts.Parts.{Parts}
-use Rattle.ft_parse.specs.declared.parts.SectionAt.{SectionAt}
-use Rattle.ft_parse.specs.declared.stop.LimitWord.{LimitWord}
-use Rattle.ft_parse.specs.declared.stop.LimitWord.TheVariants as limit
+use Rattle.ft_read.specs.declared.parts.SectionAt.{SectionAt}
+use Rattle.ft_read.specs.declared.stop.LimitWord.{LimitWord}
+use Rattle.ft_read.specs.declared.stop.LimitWord.TheVariants as limit
 use Rattle.ft_parse.proofs.LawfulExpressions.{lawful-expression}
-use Rattle.ft_parse.proofs.RealTokens.{AllGood, Owns, Reads, first-none, good-parts, good-steps, reads-any, reads-map, reads-name, reads-number, reads-or, so-none}
+use Rattle.ft_parse.proofs.RealTokens.{AllGood, Owns, Reads, first-none, good-parts, good-steps, reads-any, reads-map, reads-name}
+use Rattle.ft_parse.proofs.RealTokens.{reads-number, reads-or, so-none}
+use Rattle.ft_read.specs.meaning.Choices.{as_map, as_side, as_start, as_var_word, as_moment, as_plain, as_truth}
 
 -- what holds of each part that is read within the limits
 pub record Gives {A : Type 0} (L : Language A) (P : A → Type 0) : Type 0 where
@@ -155,7 +159,7 @@ many-count : {A : Type 0} {test : A → Bool} (limit : ℕ) (xs : List A) → Ma
     → is_count limit (length xs) ≡ true
 many-count {A} {test} limit xs m = let (n, e, f) = m.last in count-room limit (length xs) n e f
 
-reads-plain : Reads alone Items.as_plain (λ b. (is_bound b ≡ true) × (b.minus ≡ false))
+reads-plain : Reads alone as_plain (λ b. (is_bound b ≡ true) × (b.minus ≡ false))
 reads-plain =
     reads-or (reads-map (λ n. record { minus = false; value = plain.Number n.value; place = n.place }) (reads-number owns-alone)
     (λ n e. (e, refl)))
@@ -176,7 +180,7 @@ init-value minus (plain.Number value) e = e
 init-value minus (plain.Name name) e = e
 init-value minus (plain.Truth value) e = cc e
 
-reads-truth : Reads no_pass Items.as_truth (λ b. is_init b ≡ true)
+reads-truth : Reads no_pass as_truth (λ b. is_init b ≡ true)
 reads-truth =
     reads-or (reads-map (λ place. record { minus = false; value = plain.Truth true; place = place })
     (reads-any (as_word (codes "true"))) (λ place _. refl))
@@ -317,7 +321,7 @@ in-hyst : (before : List Item) (side : SectionWord) → is_side side ≡ true �
 in-hyst before side s =
     in-declared memories limit.Memories before ◇ λ w h.
     a-sign (codes "(") ◇ λ _ _. an-expression false ◇ λ term e. a-sign (codes ",") ◇ λ _ _. in-bound ◇ λ lo l.
-    a-sign (codes ",") ◇ λ _ _. in-bound ◇ λ hi u. a-sign (codes ",") ◇ λ _ _. a-token Items.as_start ◇ λ start _.
+    a-sign (codes ",") ◇ λ _ _. in-bound ◇ λ hi u. a-sign (codes ",") ◇ λ _ _. a-token as_start ◇ λ start _.
     a-sign (codes ")") ◇ λ _ _. a-sign (codes ";") ◇ λ _ _.
     done (follows before (item.Hyst side w term lo hi start) refl
     (five (is_side side) (is_word w) (is_expr term) (is_bound lo) (is_bound hi) s h.0 e.0 l u) h.1)
@@ -358,7 +362,7 @@ in-type before =
 in-clause : (before : List Item) → Gives (Items.clause before) (Follows before)
 in-clause before =
     gives-token (reads-room (is_full clauses before) limit.Nat (as_word (codes "nat"))) ◇ λ _ room.
-    a-token Items.as_moment ◇ λ moment _. an-expression false ◇ λ cond e.
+    a-token as_moment ◇ λ moment _. an-expression false ◇ λ cond e.
     a-sign (codes ";") ◇ λ _ _. done (follows before (item.Nat moment cond) refl e.0 room)
 
 listed-below : (length n : ℕ) → length ≡ suc n → nat_le 300 n ≡ false → nat_le length 300 ≡ true
@@ -411,7 +415,7 @@ in-block before =
     in-several is_fact (no_more_facts before) (in-fact before) ◇ λ facts m. a-sign (codes "}") ◇ λ _ _.
     done (follows-block before w takes uses facts h.0 h.1 t u m)
 
-reads-side : Reads no_pass Items.as_side (λ s. is_side s.word ≡ true)
+reads-side : Reads no_pass as_side (λ s. is_side s.word ≡ true)
 reads-side =
     reads-or (reads-map (λ place. record { word = section.Req; place = place }) (reads-any (as_word (codes "req")))
     (λ place _. refl))
@@ -419,8 +423,8 @@ reads-side =
 
 in-item : (before : List Item) → Gives (Items.item_part before) (Follows before)
 in-item before =
-    one-of (in-constant before) (one-of (in-type before) (one-of (a-token Items.as_var_word ◇ λ words _. in-variable before words)
-    (one-of (gives-token reads-side ◇ in-sided before) (one-of (a-token Items.as_map ◇ λ s _. in-table before s)
+    one-of (in-constant before) (one-of (in-type before) (one-of (a-token as_var_word ◇ λ words _. in-variable before words)
+    (one-of (gives-token reads-side ◇ in-sided before) (one-of (a-token as_map ◇ λ s _. in-table before s)
     (one-of (in-clause before) (in-block before))))))
 
 -- items of a set

@@ -3,20 +3,25 @@ use Rattle.std.proofs.Common.{◌≡◌, ◌∙◌, refl, ℕ, zero, suc, ◌≤
 use Rattle.ft_base.specs.declared.place.Place.{Place}
 use Rattle.ft_tree.specs.declared.expr.Expr.{Expr}
 use Rattle.ft_tree.specs.declared.expr.Expr.TheVariants as expr
-use Rattle.ft_parse.specs.Lexeme.{Lexeme, as_name, as_sign, as_word}
-use Rattle.ft_parse.specs.Limit.{opening, within}
-use Rattle.ft_parse.specs.Cursor.{head}
-use Rattle.ft_parse.specs.Expressions.{Nest, as_relation, as_simple, negated, signed, two, whole}
-use Rattle.ft_parse.specs.Levels.{inner_by, level_by, operand_by, ops_of}
-use Rattle.ft_parse.specs.ReadExpressions.{atom_by, chain_by, comparison_by, conjunction_by, disjunction_by, expression_by, expression_from, group_by}
-use Rattle.ft_parse.specs.ReadExpressions.{history_by, layer_by, negation_by, nested_by, prefixed_by, product_by, refuse, right_by, sum_by, unary_by}
-use Rattle.ft_parse.specs.Reading.{Parser, Seen, begins, can, go_on, many, read_token, seen}
-use Rattle.ft_parse.specs.declared.operators.Level.{Level}
-use Rattle.ft_parse.specs.declared.operators.Level.TheVariants.{Disjunction, Conjunction, Comparison, Sum, Product}
-use Rattle.ft_parse.specs.declared.parts.Entry.{Entry}
-use Rattle.ft_parse.specs.declared.parts.Operator.{Operator}
-use Rattle.ft_parse.specs.declared.stop.Stop.TheVariants.{Syntax}
-use Rattle.ft_parse.proofs.Shorter.{AtMost, Keeps, Shortens, either-keeps, either-shortens, ended, first-then, gives, keeps, less, many-keeps, part-then, token, turn}
+use Rattle.ft_read.specs.meaning.Lexeme.{Lexeme, as_name, as_sign, as_word}
+use Rattle.ft_read.specs.meaning.Limit.{opening, within}
+use Rattle.ft_read.specs.parsers.Cursor.{head}
+use Rattle.ft_parse.specs.meaning.Expressions.{Nest, negated, signed, whole}
+use Rattle.ft_read.specs.meaning.Operators.{as_relation, as_simple, two}
+use Rattle.ft_parse.specs.parsers.Levels.{inner_by, level_by, operand_by}
+use Rattle.ft_read.specs.parsers.Tokens.{ops_of}
+use Rattle.ft_parse.specs.parsers.Expressions.{atom_by, chain_by, comparison_by, conjunction_by, disjunction_by, expression_by}
+use Rattle.ft_parse.specs.parsers.Expressions.{expression_from, group_by, history_by, layer_by, negation_by, nested_by, prefixed_by}
+use Rattle.ft_parse.specs.parsers.Expressions.{product_by, refuse, right_by, sum_by, unary_by}
+use Rattle.ft_read.specs.parsers.Combinators.{Parser, Seen, begins, can, go_on, read_token, seen}
+use Rattle.ft_parse.specs.parsers.Repetition.{many}
+use Rattle.ft_read.specs.declared.operators.Level.{Level}
+use Rattle.ft_read.specs.declared.operators.Level.TheVariants.{Disjunction, Conjunction, Comparison, Sum, Product}
+use Rattle.ft_read.specs.declared.parts.Entry.{Entry}
+use Rattle.ft_read.specs.declared.parts.Operator.{Operator}
+use Rattle.ft_read.specs.declared.stop.Stop.TheVariants.{Syntax}
+use Rattle.ft_parse.proofs.Shorter.{AtMost, Keeps, Shortens, either-keeps, either-shortens, ended, first-then, gives, keeps, less}
+use Rattle.ft_parse.proofs.Shorter.{many-keeps, part-then, token, turn}
 
 nested-is : (room : ℕ) (entry : Entry) (nest : Nest) (s : Seen) → nested_by room entry nest s ≡ layer_by entry (inner_by room entry) room nest s
 unfolding nested_by

@@ -24,14 +24,10 @@ mod Told
 mod Whole
 mod Writes
 pub mod BlockLemmas
-pub mod BoundLemmas
 pub mod CountLemmas
-pub mod CursorLemmas
 pub mod LevelLemmas
-pub mod LexemeLemmas
 pub mod ListLemmas
 pub mod MemoryLemmas
 pub mod SetLemmas
 pub mod Shorter
-pub mod SimpleLemmas
 pub mod TableLemmas

@@ -3,11 +3,13 @@ use Rattle.std.proofs.Common.{◌≡◌, ◌∙◌, inr, ℕ, zero, suc, ◌+◌
 use Rattle.std.proofs.lemmas.List.{append-nil, length-append}
 use native.Mathlib.Omega.{arith}
 use Rattle.ft_tree.specs.declared.expr.Expr.{Expr}
-use Rattle.ft_parse.specs.Lexeme.{Lexeme}
-use Rattle.ft_parse.specs.Language.{Language, Step, times, ◌▷◌}
-use Rattle.ft_parse.specs.Expressions.{Nest, as_and, as_or, as_product, as_sum, atom, chain, comparison, conjunction, disjunction, negation, product, right_of, sum, unary}
-use Rattle.ft_parse.specs.declared.parts.Entry.{Entry}
-use Rattle.ft_parse.specs.declared.parts.Operator.{Operator}
+use Rattle.ft_read.specs.meaning.Lexeme.{Lexeme}
+use Rattle.ft_parse.specs.meaning.Language.{Language, Step, times, ◌▷◌}
+use Rattle.ft_parse.specs.meaning.Expressions.{Nest, atom, chain, comparison, conjunction, disjunction, negation, product, right_of, sum}
+use Rattle.ft_parse.specs.meaning.Expressions.{unary}
+use Rattle.ft_read.specs.meaning.Operators.{as_and, as_or, as_product, as_sum}
+use Rattle.ft_read.specs.declared.parts.Entry.{Entry}
+use Rattle.ft_read.specs.declared.parts.Operator.{Operator}
 use Rattle.ft_parse.proofs.Writes.{Within}
 
 -- the part of a rank

@@ -2,12 +2,13 @@
 use Rattle.std.proofs.Common.{◌≡◌, ℕ, ◌<◌, Bool, true, false, List, [], ◌∷◌, ◌++◌, length, nat_le, Ok, codes}
 use Rattle.ft_tree.specs.declared.expr.Expr.{Expr}
 use Rattle.ft_tree.specs.declared.item.Word.{Word}
-use Rattle.ft_parse.specs.Lexeme.{Lexeme, as_name, as_number, as_sign, as_word}
-use Rattle.ft_parse.specs.Language.{no_pass}
-use Rattle.ft_parse.specs.Limit.{alone, counted}
-use Rattle.ft_parse.specs.ReadItems.{entries_by, more_entries_by, more_names_by, name_by, names_by, number_by, sign_by, word_by}
-use Rattle.ft_parse.specs.Reading.{Parser, Seen, begins, can, go_on, many, ◌▶◌}
-use Rattle.ft_parse.specs.declared.stop.LimitWord.{LimitWord}
+use Rattle.ft_read.specs.meaning.Lexeme.{Lexeme, as_name, as_number, as_sign, as_word}
+use Rattle.ft_read.specs.meaning.Limit.{no_pass, alone, counted}
+use Rattle.ft_parse.specs.parsers.Items.{entries_by, more_entries_by, more_names_by, names_by}
+use Rattle.ft_read.specs.parsers.Parts.{name_by, number_by, sign_by, word_by}
+use Rattle.ft_read.specs.parsers.Combinators.{Parser, Seen, begins, can, go_on, ◌▶◌}
+use Rattle.ft_parse.specs.parsers.Repetition.{many}
+use Rattle.ft_read.specs.declared.stop.LimitWord.{LimitWord}
 use Rattle.ft_parse.proofs.Shorter.{Keeps, Shortens, ended, first-then, gives, keeps, less, many-keeps, part-then, token, turn}
 use Rattle.ft_parse.proofs.LevelLemmas.{expression-shortens}
 

@@ -3,9 +3,10 @@ use Rattle.std.proofs.Common.{◌≡◌, ◌∙◌, ℕ, zero, suc, ◌+◌, ◌
 use Rattle.std.proofs.Common.{Ok, Err, refl, ap}
 use Rattle.std.proofs.lemmas.List.{length-append}
 use native.Mathlib.Omega.{arith}
-use Rattle.ft_parse.specs.Lexeme.{Lexeme}
-use Rattle.ft_parse.specs.Language.{Language, Step, lexemes, nothing, repeated, times, ◌▷◌}
-use Rattle.ft_parse.specs.Reading.{Outcome, Parser, Seen, begins, give, go_on, many, seen, ◌▶◌}
+use Rattle.ft_read.specs.meaning.Lexeme.{Lexeme}
+use Rattle.ft_parse.specs.meaning.Language.{Language, Step, lexemes, nothing, repeated, times, ◌▷◌}
+use Rattle.ft_read.specs.parsers.Combinators.{Outcome, Parser, Seen, begins, give, go_on, seen, ◌▶◌}
+use Rattle.ft_parse.specs.parsers.Repetition.{many}
 use Rattle.ft_parse.proofs.Shorter.{AtMost, Shortens, ended, turn}
 use Rattle.ft_parse.proofs.Told.{Begins, Takes, Told, at-first, same-test, told-give, told-then, told-wider}
 

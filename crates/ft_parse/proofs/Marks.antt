@@ -12,11 +12,11 @@ use Rattle.ft_lex.specs.declared.token.TokenKind.TheVariants as kind
 use Rattle.ft_base.specs.Digits.{begins_by_digit, begins-push, decimal_value}
 use Rattle.ft_base.specs.Names.{begins_by_letter, is_name, is_name_byte, is_reserved_word}
 use Rattle.ft_base.specs.Reserved.{reserved-begins}
-use Rattle.ft_tree.specs.Limits.{is_number}
-use Rattle.ft_tree.specs.Tokens.{kind_of}
-use Rattle.ft_parse.specs.Lexeme.{Lexeme, as_sign, as_word}
-use Rattle.ft_parse.specs.Language.{Passes, token}
-use Rattle.ft_parse.specs.Limit.{own_pass}
+use Rattle.ft_tree.specs.meaning.Limits.{is_number}
+use Rattle.ft_tree.specs.laws.Tokens.{kind_of}
+use Rattle.ft_read.specs.meaning.Lexeme.{Lexeme, as_sign, as_word}
+use Rattle.ft_read.specs.meaning.Limit.{Passes, own_pass}
+use Rattle.ft_parse.specs.meaning.Language.{token}
 use Rattle.ft_parse.proofs.Forms.{itself-bytes}
 use Rattle.ft_parse.proofs.Writes.{Writes, lexeme_at, one, shaped}
 

@@ -6,14 +6,15 @@ use Rattle.ft_tree.specs.declared.item.Item.{Item}
 use Rattle.ft_tree.specs.declared.item.Item.TheVariants as item
 use Rattle.ft_tree.specs.declared.item.SectionWord.{SectionWord}
 use Rattle.ft_tree.specs.declared.item.Word.{Word}
-use Rattle.ft_tree.specs.Limits.{memories}
-use Rattle.ft_parse.specs.Items.{as_start}
-use Rattle.ft_parse.specs.Language.{no_pass}
-use Rattle.ft_parse.specs.ReadExpressions.{expression_by}
-use Rattle.ft_parse.specs.ReadItems.{bound_by, declared_by, held_by, hyst_by, plain_bound_by, sign_by, word_by}
-use Rattle.ft_parse.specs.Reading.{Outcome, Parser, Seen, give, go_on, read_token, ◌▶◌}
-use Rattle.ft_parse.specs.Steps.{close_by, condition_by, limits_by}
-use Rattle.ft_parse.specs.declared.stop.LimitWord.TheVariants as limit
+use Rattle.ft_tree.specs.meaning.Limits.{memories}
+use Rattle.ft_read.specs.meaning.Choices.{as_start}
+use Rattle.ft_read.specs.meaning.Limit.{no_pass}
+use Rattle.ft_parse.specs.parsers.Expressions.{expression_by}
+use Rattle.ft_read.specs.parsers.Parts.{bound_by, plain_bound_by, sign_by, word_by}
+use Rattle.ft_parse.specs.parsers.Items.{declared_by, held_by, hyst_by}
+use Rattle.ft_read.specs.parsers.Combinators.{Outcome, Parser, Seen, give, go_on, read_token, ◌▶◌}
+use Rattle.ft_parse.specs.parsers.Steps.{close_by, condition_by, limits_by}
+use Rattle.ft_read.specs.declared.stop.LimitWord.TheVariants as limit
 
 -- one part after another may be read together
 pub together : {A B C : Type 0} (o : Outcome A) (f : A → Parser B) (k : B → Parser C) (g : A → Parser C) → ((a : A) (s : Seen) → g a s ≡ go_on k (f a s))

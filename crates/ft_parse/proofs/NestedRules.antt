@@ -4,19 +4,19 @@ use native.Mathlib.Omega.{arith}
 use Rattle.ft_base.specs.declared.place.Place.{Place}
 use Rattle.ft_tree.specs.declared.expr.Expr.{Expr}
 use Rattle.ft_tree.specs.declared.expr.Expr.TheVariants as expr
-use Rattle.ft_parse.specs.Lexeme.{Lexeme, as_sign, as_word}
-use Rattle.ft_parse.specs.Language.{Language, Passes, Step, either, lexemes, nothing, repeated, step, times, token, ◌▷◌}
-use Rattle.ft_parse.specs.Limit.{first_of, opening, pass, where_so, within}
-use Rattle.ft_parse.specs.Expressions.{Nest, as_and, as_or, as_product, as_relation, as_sum, atom, chain, comparison, conjunction}
-use Rattle.ft_parse.specs.Expressions.{disjunction, expression, group, layer, negated, negation, nested, prefixed, product, right_of, signed}
-use Rattle.ft_parse.specs.Expressions.{sum, two, unary, whole}
-use Rattle.ft_parse.specs.Reading.{Outcome, Parser, Seen, can, give, go_on, read_token, seen, token_as, ◌▶◌}
-use Rattle.ft_parse.specs.ReadExpressions.{expression_by, expression_from, group_by, layer_by, nested_by, prefixed_by, refuse}
-use Rattle.ft_parse.specs.declared.parts.Entry.{Entry}
-use Rattle.ft_parse.specs.declared.parts.Operator.{Operator}
-use Rattle.ft_parse.specs.declared.stop.LimitWord.TheVariants as limit
-use Rattle.ft_parse.specs.declared.stop.Pass.{Pass}
-use Rattle.ft_parse.specs.declared.stop.Stop.TheVariants.{Syntax, Limit, NoMemory}
+use Rattle.ft_read.specs.meaning.Lexeme.{Lexeme, as_sign, as_word}
+use Rattle.ft_parse.specs.meaning.Language.{Language, Step, either, lexemes, nothing, repeated, step, times, token, ◌▷◌}
+use Rattle.ft_read.specs.meaning.Limit.{Passes, first_of, opening, pass, where_so, within}
+use Rattle.ft_parse.specs.meaning.Expressions.{Nest, atom, chain, comparison, conjunction, disjunction, expression, group, layer, negated}
+use Rattle.ft_parse.specs.meaning.Expressions.{negation, nested, prefixed, product, right_of, signed, sum, unary, whole}
+use Rattle.ft_read.specs.meaning.Operators.{as_and, as_or, as_product, as_relation, as_sum, two}
+use Rattle.ft_read.specs.parsers.Combinators.{Outcome, Parser, Seen, can, give, go_on, read_token, seen, token_as, ◌▶◌}
+use Rattle.ft_parse.specs.parsers.Expressions.{expression_by, expression_from, group_by, layer_by, nested_by, prefixed_by, refuse}
+use Rattle.ft_read.specs.declared.parts.Entry.{Entry}
+use Rattle.ft_read.specs.declared.parts.Operator.{Operator}
+use Rattle.ft_read.specs.declared.stop.LimitWord.TheVariants as limit
+use Rattle.ft_read.specs.declared.stop.Pass.{Pass}
+use Rattle.ft_read.specs.declared.stop.Stop.TheVariants.{Syntax, Limit, NoMemory}
 use Rattle.ft_parse.proofs.ExpressionRules.{apart-first, heads-disjunction, negation_forms, some_number_token, comparison_forms, here}
 use Rattle.ft_parse.proofs.ExpressionRules.{or_forms, rule-disjunction, rule-map, rule-negation, rule-unary, some_sign, some_word}
 use Rattle.ft_parse.proofs.Forms.{any, apart, looks-sign, sign}

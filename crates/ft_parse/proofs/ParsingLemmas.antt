@@ -7,22 +7,23 @@ use Rattle.ft_lex.specs.Tokens.{IsTokens}
 use Rattle.ft_tree.specs.declared.item.Item.{Item}
 use Rattle.ft_tree.specs.declared.item.Number.{Number}
 use Rattle.ft_tree.specs.declared.tree.Tree.{Tree}
-use Rattle.ft_tree.specs.Limits.{IsSet}
-use Rattle.ft_parse.specs.Lexeme.{Lexeme, lexemes_of}
-use Rattle.ft_parse.specs.Language.{Plain, Step, lexemes}
-use Rattle.ft_parse.specs.Items.{set}
-use Rattle.ft_parse.specs.Parse.{AreLexemes, IsAhead, IsFault, IsFaultOf, Reads, ReadsSame, Spells, parts_of}
-use Rattle.ft_tree.specs.Bare.{IsSameTree}
-use Rattle.ft_tree.specs.Canonical.{canonical}
-use Rattle.ft_tree.specs.Tokens.{CanonicalTokens}
+use Rattle.ft_tree.specs.meaning.Limits.{IsSet}
+use Rattle.ft_read.specs.meaning.Lexeme.{Lexeme, lexemes_of}
+use Rattle.ft_parse.specs.meaning.Language.{Plain, Step, lexemes}
+use Rattle.ft_parse.specs.meaning.Items.{set}
+use Rattle.ft_parse.specs.meaning.Parse.{AreLexemes, IsFault, Reads, ReadsSame, Spells, parts_of}
+use Rattle.ft_parse.specs.parsers.Faults.{IsAhead, IsFaultOf}
+use Rattle.ft_tree.specs.meaning.Bare.{IsSameTree}
+use Rattle.ft_tree.specs.meaning.Canonical.{canonical}
+use Rattle.ft_tree.specs.laws.Tokens.{CanonicalTokens}
 use Rattle.ft_parse.proofs.RoundTrip.{bare_parts, round-trip}
-use Rattle.ft_parse.specs.Reading.{Outcome, Seen, Stops, seen}
-use Rattle.ft_parse.specs.ReadItems.{set_by}
+use Rattle.ft_read.specs.parsers.Combinators.{Outcome, Seen, Stops, seen}
+use Rattle.ft_parse.specs.parsers.Items.{set_by}
 use Rattle.ft_parse.specs.declared.parts.Parts.{Parts}
-use Rattle.ft_parse.specs.declared.stop.ParseFault.{ParseFault}
-use Rattle.ft_parse.specs.declared.stop.ParseFault.TheVariants as fault
-use Rattle.ft_parse.specs.declared.stop.Stop.{Stop}
-use Rattle.ft_parse.specs.declared.stop.Stop.TheVariants.{Syntax, Limit, NoMemory}
+use Rattle.ft_parse.specs.declared.fault.ParseFault.{ParseFault}
+use Rattle.ft_parse.specs.declared.fault.ParseFault.TheVariants as fault
+use Rattle.ft_read.specs.declared.stop.Stop.{Stop}
+use Rattle.ft_read.specs.declared.stop.Stop.TheVariants.{Syntax, Limit, NoMemory}
 use Rattle.ft_parse.proofs.Answers.{Says, closed-lexemes, only, says}
 use Rattle.ft_parse.proofs.LawfulItems.{lawful-parts}
 

@@ -16,21 +16,24 @@ use Rattle.ft_tree.specs.declared.item.Plain.TheVariants as plain
 use Rattle.ft_tree.specs.declared.item.Bound.{Bound}
 use Rattle.ft_tree.specs.declared.item.Kind.{Kind}
 use Rattle.ft_tree.specs.declared.item.Kind.TheVariants as kind
-use Rattle.ft_tree.specs.Expression.{expr_pieces, truth_word}
-use Rattle.ft_tree.specs.Limits.{are_entries, is_bound, is_count, is_expr, is_init, is_init_value, is_kind, is_number, is_plain, is_word}
-use Rattle.ft_tree.specs.Line
-use Rattle.ft_tree.specs.Line.{Line, Piece}
-use Rattle.ft_tree.specs.Lines.{bound_pieces, exprs_pieces, kind_pieces, names_pieces, plain_text, sign_pieces, word_pieces}
-use Rattle.ft_tree.specs.Tokens.{Shape, kind_of, piece_shape}
-use Rattle.ft_parse.specs.Lexeme.{as_name}
-use Rattle.ft_parse.specs.Language.{Language, either, no_pass, nothing, token, ◌▷◌}
-use Rattle.ft_parse.specs.Limit.{counted, is_full}
-use Rattle.ft_parse.specs.Items
-use Rattle.ft_tree.specs.Bare.{bare_bound, bare_expr, bare_kind, bare_word, start}
-use Rattle.ft_parse.specs.declared.stop.LimitWord.{LimitWord}
+use Rattle.ft_tree.specs.meaning.Expression.{expr_pieces, truth_word}
+use Rattle.ft_tree.specs.meaning.Limits.{are_entries, is_bound, is_count, is_expr, is_init, is_init_value, is_kind, is_number, is_plain}
+use Rattle.ft_tree.specs.meaning.Limits.{is_word}
+use Rattle.ft_tree.specs.meaning.Line
+use Rattle.ft_tree.specs.meaning.Line.{Line, Piece}
+use Rattle.ft_tree.specs.meaning.Lines.{bound_pieces, exprs_pieces, kind_pieces, names_pieces, plain_text, sign_pieces, word_pieces}
+use Rattle.ft_tree.specs.laws.Tokens.{Shape, kind_of, piece_shape}
+use Rattle.ft_read.specs.meaning.Lexeme.{as_name}
+use Rattle.ft_parse.specs.meaning.Language.{Language, either, nothing, token, ◌▷◌}
+use Rattle.ft_read.specs.meaning.Limit.{no_pass, counted}
+use Rattle.ft_parse.specs.meaning.Room.{is_full}
+use Rattle.ft_parse.specs.meaning.Items
+use Rattle.ft_tree.specs.meaning.Bare.{bare_bound, bare_expr, bare_kind, bare_word, start}
+use Rattle.ft_read.specs.declared.stop.LimitWord.{LimitWord}
 use Rattle.ft_parse.proofs.ExprWritten.{Same, expr-written}
 use Rattle.ft_parse.proofs.Marks.{mark, name-kind, name-own, number-kind, number-own, reads-sign, reads-word, value-back}
 use Rattle.ft_parse.proofs.Writes.{Writes, and_then, left, made, many, next, none, right, shaped, shapes, weaker}
+use Rattle.ft_read.specs.meaning.Choices.{as_truth}
 
 -- the shape of a token of these bytes
 abbrev pub sh : List ℕ → Shape
@@ -128,7 +131,7 @@ pub bound-written : {at : ℕ} (b : Bound) → is_bound b ≡ true
 bound-written b h = weaker (same-bound b) (bound-of b.minus b.value h)
 
 truth-of : {at : ℕ} (value : Bool)
-    → Writes (token Items.as_truth no_pass) at (sh (truth_word value) ∷ []) (IsBound false (plain.Truth value))
+    → Writes (token as_truth no_pass) at (sh (truth_word value) ∷ []) (IsBound false (plain.Truth value))
 unfolding is_reserved_word reserved_words
 truth-of true =
     mark (codes "true") token_kind.Word refl
@@ -139,8 +142,8 @@ truth-of false =
 
 value-of : {at : ℕ} (minus : Bool) (p : Plain) → is_init_value minus p ≡ true
     → Writes Items.value at (bound_shapes minus p) (IsBound minus p)
-value-of minus (plain.Number value) h = right (token Items.as_truth no_pass) (bound-of minus (plain.Number value) h)
-value-of minus (plain.Name name) h = right (token Items.as_truth no_pass) (bound-of minus (plain.Name name) h)
+value-of minus (plain.Number value) h = right (token as_truth no_pass) (bound-of minus (plain.Number value) h)
+value-of minus (plain.Name name) h = right (token as_truth no_pass) (bound-of minus (plain.Name name) h)
 value-of true (plain.Truth value) h = absurd (true≢false (sym h))
 value-of false (plain.Truth value) h = left Items.bound (truth-of value)
 

@@ -12,15 +12,15 @@ use Rattle.ft_base.specs.Names.{begins_by_letter, is_letter, is_name, is_name_by
 use Rattle.ft_lex.specs.Tokens.{AreTokensFrom, IsNameShape, IsShape, is_last}
 use Rattle.ft_tree.specs.declared.item.Number.{Number}
 use Rattle.ft_tree.specs.declared.item.Word.{Word}
-use Rattle.ft_tree.specs.Limits.{is_number}
+use Rattle.ft_tree.specs.meaning.Limits.{is_number}
 use Rattle.ft_base.specs.Digits.{decimal_value}
-use Rattle.ft_parse.specs.Lexeme.{Lexeme, as_name, as_number, lexemes_of}
-use Rattle.ft_parse.specs.Language.{Passes, Plain, Step, lexemes}
-use Rattle.ft_parse.specs.Limit.{first_of, is_great_number, is_long_name, is_name_kind, is_number_kind, own_pass, where_so}
-use Rattle.ft_parse.specs.Expressions.{or_else}
-use Rattle.ft_parse.specs.Parse.{AreLexemes}
-use Rattle.ft_parse.specs.declared.stop.LimitWord.{LimitWord}
-use Rattle.ft_parse.specs.declared.stop.Pass.{Pass}
+use Rattle.ft_read.specs.meaning.Lexeme.{Lexeme, as_name, as_number, lexemes_of}
+use Rattle.ft_read.specs.meaning.Limit.{Passes, first_of, is_great_number, is_long_name, is_name_kind, is_number_kind, own_pass, where_so}
+use Rattle.ft_parse.specs.meaning.Language.{Plain, Step, lexemes}
+use Rattle.ft_read.specs.meaning.Operators.{or_else}
+use Rattle.ft_parse.specs.meaning.Parse.{AreLexemes}
+use Rattle.ft_read.specs.declared.stop.LimitWord.{LimitWord}
+use Rattle.ft_read.specs.declared.stop.Pass.{Pass}
 
 -- a letter with letters, digits and `_` after it, and no reserved word
 abbrev pub is_spelled : List ℕ → Bool

@@ -1,7 +1,7 @@
 -- Parts of the grammar that grow: a union of steps, each within the next ones.
 use Rattle.std.proofs.Common.{◌≡◌, inl, inr, ℕ, zero, suc, ◌+◌, List, length}
 use native.Mathlib.Omega.{arith}
-use Rattle.ft_parse.specs.Language.{Language, Step, either, nothing, repeated, times, ◌▷◌}
+use Rattle.ft_parse.specs.meaning.Language.{Language, Step, either, nothing, repeated, times, ◌▷◌}
 
 pub record Rises {A : Type 0} (F : ℕ → Language A) (L : Language A) : Type 0 where
   pub up : (n m at : ℕ) (steps : List Step) (a : A) → F n at steps a → F (n + m) at steps a

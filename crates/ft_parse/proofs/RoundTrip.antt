@@ -13,19 +13,20 @@ use Rattle.ft_tree.specs.declared.item.Item.{Item}
 use Rattle.ft_tree.specs.declared.item.Item.TheVariants as item
 use Rattle.ft_tree.specs.declared.item.Number.{Number}
 use Rattle.ft_tree.specs.declared.tree.Tree.{Tree}
-use Rattle.ft_tree.specs.Canonical.{canonical}
-use Rattle.ft_tree.specs.Limits.{IsSet, Sort, constants, types, variables, memories, tables, clauses, blocks, facts_of, is_item, is_number, is_option, is_same_sort, limit_of, sort_of}
-use Rattle.ft_tree.specs.Line
-use Rattle.ft_tree.specs.Line.{Line}
-use Rattle.ft_tree.specs.Lines.{item_lines, one_line, option_lines, period_pieces, set_lines, set_pieces}
-use Rattle.ft_tree.specs.Tokens.{CanonicalTokens, Shape, kind_of}
-use Rattle.ft_parse.specs.Lexeme.{Lexeme, lexeme_of, lexemes_of}
-use Rattle.ft_parse.specs.Language.{Plain, Step, lexemes, nothing, repeated, ◌▷◌}
-use Rattle.ft_parse.specs.Limit.{is_full}
-use Rattle.ft_parse.specs.Items
-use Rattle.ft_parse.specs.Items.{set}
-use Rattle.ft_parse.specs.Parse.{AreLexemes, parts_of}
-use Rattle.ft_tree.specs.Bare.{BareSet, bare_fact, bare_item, bare_option, bare_set, start}
+use Rattle.ft_tree.specs.meaning.Canonical.{canonical}
+use Rattle.ft_tree.specs.meaning.Limits.{IsSet, Sort, constants, types, variables, memories, tables, clauses, blocks, facts_of, is_item}
+use Rattle.ft_tree.specs.meaning.Limits.{is_number, is_option, is_same_sort, limit_of, sort_of}
+use Rattle.ft_tree.specs.meaning.Line
+use Rattle.ft_tree.specs.meaning.Line.{Line}
+use Rattle.ft_tree.specs.meaning.Lines.{item_lines, one_line, option_lines, period_pieces, set_lines, set_pieces}
+use Rattle.ft_tree.specs.laws.Tokens.{CanonicalTokens, Shape, kind_of}
+use Rattle.ft_read.specs.meaning.Lexeme.{Lexeme, lexeme_of, lexemes_of}
+use Rattle.ft_parse.specs.meaning.Language.{Plain, Step, lexemes, nothing, repeated, ◌▷◌}
+use Rattle.ft_parse.specs.meaning.Room.{is_full}
+use Rattle.ft_parse.specs.meaning.Items
+use Rattle.ft_parse.specs.meaning.Items.{set}
+use Rattle.ft_parse.specs.meaning.Parse.{AreLexemes, parts_of}
+use Rattle.ft_tree.specs.meaning.Bare.{BareSet, bare_fact, bare_item, bare_option, bare_set, start}
 use Rattle.ft_parse.specs.declared.parts.Parts.{Parts}
 use Rattle.ft_parse.proofs.ItemsWritten.{item-written, line_shapes, lines-append, lines-none, one-line}
 use Rattle.ft_parse.proofs.PartsWritten.{a-name, a-number, more-same, one-of, sh, skip-sign, skip-word}

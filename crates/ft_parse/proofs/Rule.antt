@@ -1,11 +1,14 @@
 -- A part of the grammar with the parser that reads it.
 use Rattle.std.proofs.Common.{◌≡◌, ◌∙◌, inl, inr, ℕ, ◌+◌, Bool, List, [], ◌∷◌, ◌++◌, length, Option, Some, refl, ap}
-use Rattle.ft_parse.specs.Lexeme.{Lexeme}
-use Rattle.ft_parse.specs.Language.{Language, Passes, Step, either, nothing, repeated, step, token, ◌▷◌}
-use Rattle.ft_parse.specs.Reading.{Parser, Seen, can, either_by, give, many, read_token, ◌▶◌}
+use Rattle.ft_read.specs.meaning.Lexeme.{Lexeme}
+use Rattle.ft_parse.specs.meaning.Language.{Language, Step, either, nothing, repeated, step, token, ◌▷◌}
+use Rattle.ft_read.specs.meaning.Limit.{Passes}
+use Rattle.ft_read.specs.parsers.Combinators.{Parser, Seen, can, either_by, give, read_token, ◌▶◌}
+use Rattle.ft_parse.specs.parsers.Repetition.{many}
 use Rattle.ft_parse.proofs.Told.{Begins, Told, told-either, told-give, told-then, told-token}
 use Rattle.ft_parse.proofs.Many.{Heads, any-more, told-many}
-use Rattle.ft_parse.proofs.Whole.{Apart, Calms, Under, Whole, calms-never, never, whole-either, whole-give, whole-many, whole-then, whole-token, whole-weaker}
+use Rattle.ft_parse.proofs.Whole.{Apart, Calms, Under, Whole, calms-never, never, whole-either, whole-give, whole-many, whole-then}
+use Rattle.ft_parse.proofs.Whole.{whole-token, whole-weaker}
 
 -- the parser reads the part: it stops where no text goes on, and it reads what is spelled where no token of `more` follows
 pub record Rule {A : Type 0} (L : Language A) (p : Parser A) (more : Lexeme → Bool) : Type 0 where

@@ -4,11 +4,12 @@ use Rattle.ft_base.specs.declared.place.Place.{Place}
 use Rattle.ft_tree.specs.declared.expr.Op.{Op}
 use Rattle.ft_tree.specs.declared.expr.Expr.{Expr, Expr-F, map-Expr, roll-Expr, fold-roll-Expr}
 use Rattle.ft_tree.specs.declared.expr.Expr.TheOpen as layer
-use Rattle.ft_tree.specs.declared.expr.Expr.TheVariants.{Num, Name, Truth, Prev, Age, Not, Neg, Two, rolls-Num, rolls-Name, rolls-Truth, rolls-Prev, rolls-Age, rolls-Not, rolls-Neg, rolls-Two}
+use Rattle.ft_tree.specs.declared.expr.Expr.TheVariants.{Num, Name, Truth, Prev, Age, Not, Neg, Two, rolls-Num, rolls-Name, rolls-Truth}
+use Rattle.ft_tree.specs.declared.expr.Expr.TheVariants.{rolls-Prev, rolls-Age, rolls-Not, rolls-Neg, rolls-Two}
 use Rattle.ft_tree.specs.declared.level.Level.TheVariants.{Negation, Unary, Atom}
-use Rattle.ft_tree.specs.Level.{left_level, op_level, right_level}
-use Rattle.ft_tree.specs.Limits.{Nested, nested, nested_layer, nests, operand_depth}
-use Rattle.ft_tree.specs.Bare.{bare_expr, bare_layer, start}
+use Rattle.ft_tree.specs.meaning.Level.{left_level, op_level, right_level}
+use Rattle.ft_tree.specs.meaning.Limits.{Nested, nested, nested_layer, nests, operand_depth}
+use Rattle.ft_tree.specs.meaning.Bare.{bare_expr, bare_layer, start}
 
 of_bare : (expr : Expr) (a_layer : Expr-F Expr) → roll-Expr a_layer ≡ expr
     → bare_expr expr ≡ bare_layer (map-Expr Expr Expr bare_expr a_layer)

@@ -1,11 +1,13 @@
 -- The reading of a set, taken apart.
 use Rattle.std.proofs.Common.{◌≡◌, refl, ℕ, List, [], codes}
 use Rattle.ft_tree.specs.declared.item.Number.{Number}
-use Rattle.ft_parse.specs.Lexeme.{as_end}
-use Rattle.ft_parse.specs.Language.{no_pass}
-use Rattle.ft_parse.specs.ReadItems.{is_item_start, more_items_by, name_by, number_by, set_by, setting_by, sign_by, word_by}
-use Rattle.ft_parse.specs.Reading.{Parser, Seen, give, many, read_token, ◌▶◌}
-use Rattle.ft_parse.specs.Steps.{start_by}
+use Rattle.ft_read.specs.meaning.Lexeme.{as_end}
+use Rattle.ft_read.specs.meaning.Limit.{no_pass}
+use Rattle.ft_parse.specs.parsers.Items.{is_item_start, more_items_by, set_by, setting_by}
+use Rattle.ft_read.specs.parsers.Parts.{name_by, number_by, sign_by, word_by}
+use Rattle.ft_read.specs.parsers.Combinators.{Parser, Seen, give, read_token, ◌▶◌}
+use Rattle.ft_parse.specs.parsers.Repetition.{many}
+use Rattle.ft_parse.specs.parsers.Steps.{start_by}
 use Rattle.ft_parse.specs.declared.parts.Parts.{Parts}
 use Rattle.ft_parse.proofs.MemoryLemmas.{together}
 

@@ -1,9 +1,11 @@
 -- Reading takes tokens away and puts none back.
 use Rattle.std.proofs.Common.{◌≡◌, refl, sym, ap, true≢false, ℕ, zero, suc, ◌≤◌, ◌<◌, subst, arith, Bool, true, false, List, [], ◌∷◌, length, Option, Some, None, Ok, Err, if◌then◌else◌}
-use Rattle.ft_parse.specs.Lexeme.{Lexeme}
-use Rattle.ft_parse.specs.Language.{Passes}
-use Rattle.ft_parse.specs.Reading.{Outcome, Parser, Seen, begins, either_by, give, go_on, many, many_by, read_token, seen, token_as, token_of, ◌▶◌}
-use Rattle.ft_parse.specs.declared.stop.Pass.{Pass}
+use Rattle.ft_read.specs.meaning.Lexeme.{Lexeme}
+use Rattle.ft_read.specs.meaning.Limit.{Passes}
+use Rattle.ft_read.specs.parsers.Combinators.{Outcome, Parser, Seen, begins, either_by, give, go_on, read_token, seen, token_as, token_of}
+use Rattle.ft_read.specs.parsers.Combinators.{◌▶◌}
+use Rattle.ft_parse.specs.parsers.Repetition.{many, many_by}
+use Rattle.ft_read.specs.declared.stop.Pass.{Pass}
 
 -- at most n tokens are left after what was read
 abbrev pub AtMost : {A : Type 0} → ℕ → Outcome A → Type 0

@@ -2,12 +2,13 @@
 use Rattle.std.proofs.Common.{◌≡◌, refl, ℕ, ◌<◌, Bool, true, false, List, [], ◌∷◌, ◌++◌, length, nat_le, Ok, Err, codes}
 use Rattle.ft_tree.specs.declared.item.Row.{Row}
 use Rattle.ft_tree.specs.declared.item.VRow.{VRow}
-use Rattle.ft_parse.specs.Lexeme.{Lexeme, as_word}
-use Rattle.ft_parse.specs.Limit.{counted}
-use Rattle.ft_parse.specs.ReadItems.{row_by, row_word_by, several_by, vrow_by}
-use Rattle.ft_parse.specs.Reading.{Outcome, Parser, Seen, begins, can, give, go_on, many}
-use Rattle.ft_parse.specs.Steps.{one_more}
-use Rattle.ft_parse.specs.declared.stop.LimitWord.TheVariants as limit
+use Rattle.ft_read.specs.meaning.Lexeme.{Lexeme, as_word}
+use Rattle.ft_read.specs.meaning.Limit.{counted}
+use Rattle.ft_parse.specs.parsers.Items.{row_by, row_word_by, several_by, vrow_by}
+use Rattle.ft_read.specs.parsers.Combinators.{Outcome, Parser, Seen, begins, can, give, go_on}
+use Rattle.ft_parse.specs.parsers.Repetition.{many}
+use Rattle.ft_parse.specs.parsers.Steps.{one_more}
+use Rattle.ft_read.specs.declared.stop.LimitWord.TheVariants as limit
 use Rattle.ft_parse.proofs.Shorter.{Shortens, ended, gives, keeps, less, many-keeps, token, turn}
 use Rattle.ft_parse.proofs.LevelLemmas.{expression-shortens}
 use Rattle.ft_parse.proofs.ListLemmas.{begin, entries-shortens, name-shortens, next, sign-shortens}

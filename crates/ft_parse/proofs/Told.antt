@@ -3,11 +3,13 @@ use Rattle.std.proofs.Common.{◌≡◌, ◌∙◌, inl, inr, ℕ, ◌+◌, Bool
 use Rattle.std.proofs.Common.{Ok, Err, refl, sym, ap, append_assoc, if◌then◌else◌}
 use Rattle.std.proofs.lemmas.List.{length-append, map-append}
 use native.Mathlib.Omega.{arith}
-use Rattle.ft_parse.specs.Lexeme.{Lexeme}
-use Rattle.ft_parse.specs.Language.{Language, Passes, Plain, Step, either, lexemes, nothing, step, token, ◌▷◌}
-use Rattle.ft_parse.specs.Reading.{Outcome, Parser, Seen, begins, either_by, give, go_on, read_token, seen, token_as, token_of, ◌▶◌}
-use Rattle.ft_parse.specs.declared.stop.Pass.{Pass}
-use Rattle.ft_parse.specs.declared.stop.Stop.TheVariants.{Syntax, Limit, NoMemory}
+use Rattle.ft_read.specs.meaning.Lexeme.{Lexeme}
+use Rattle.ft_parse.specs.meaning.Language.{Language, Plain, Step, either, lexemes, nothing, step, token, ◌▷◌}
+use Rattle.ft_read.specs.meaning.Limit.{Passes}
+use Rattle.ft_read.specs.parsers.Combinators.{Outcome, Parser, Seen, begins, either_by, give, go_on, read_token, seen, token_as, token_of}
+use Rattle.ft_read.specs.parsers.Combinators.{◌▶◌}
+use Rattle.ft_read.specs.declared.stop.Pass.{Pass}
+use Rattle.ft_read.specs.declared.stop.Stop.TheVariants.{Syntax, Limit, NoMemory}
 
 abbrev pub first : List Lexeme → Option Lexeme
 first [] = None

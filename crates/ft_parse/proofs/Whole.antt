@@ -2,11 +2,13 @@
 use Rattle.std.proofs.Common.{◌≡◌, ◌∙◌, inl, inr, ℕ, zero, suc, ◌+◌, Bool, true, false, List, [], ◌∷◌, ◌++◌, length, Option, Some}
 use Rattle.std.proofs.Common.{None, Ok, Err, refl, sym, ap}
 use native.Mathlib.Omega.{arith}
-use Rattle.ft_parse.specs.Lexeme.{Lexeme}
-use Rattle.ft_parse.specs.Language.{Language, Passes, Step, either, lexemes, nothing, repeated, times, token, ◌▷◌}
-use Rattle.ft_parse.specs.Reading.{Outcome, Parser, Seen, begins, either_by, give, go_on, many, read_token, seen, token_of, ◌▶◌}
-use Rattle.ft_parse.specs.declared.stop.Pass.{Pass}
-use Rattle.ft_parse.specs.declared.stop.Stop.TheVariants.{Limit}
+use Rattle.ft_read.specs.meaning.Lexeme.{Lexeme}
+use Rattle.ft_parse.specs.meaning.Language.{Language, Step, either, lexemes, nothing, repeated, times, token, ◌▷◌}
+use Rattle.ft_read.specs.meaning.Limit.{Passes}
+use Rattle.ft_read.specs.parsers.Combinators.{Outcome, Parser, Seen, begins, either_by, give, go_on, read_token, seen, token_of, ◌▶◌}
+use Rattle.ft_parse.specs.parsers.Repetition.{many}
+use Rattle.ft_read.specs.declared.stop.Pass.{Pass}
+use Rattle.ft_read.specs.declared.stop.Stop.TheVariants.{Limit}
 use Rattle.ft_parse.proofs.Told.{Told, two-parts}
 use Rattle.ft_parse.proofs.Many.{Heads, many-end, many-step}
 

@@ -4,10 +4,11 @@ use Rattle.std.specs.List.{flat_map}
 use Rattle.std.proofs.lemmas.List.{append-nil, length-map, map-append}
 use Rattle.std.proofs.lemmas.List.Concat.{flat_map-cons}
 use Rattle.ft_base.specs.declared.place.Place.{Place}
-use Rattle.ft_tree.specs.Line.{Piece}
-use Rattle.ft_tree.specs.Tokens.{Shape, piece_shape}
-use Rattle.ft_parse.specs.Lexeme.{Lexeme}
-use Rattle.ft_parse.specs.Language.{Language, Passes, Plain, Step, either, lexemes, nothing, repeated, step, times, token, ◌▷◌}
+use Rattle.ft_tree.specs.meaning.Line.{Piece}
+use Rattle.ft_tree.specs.laws.Tokens.{Shape, piece_shape}
+use Rattle.ft_read.specs.meaning.Lexeme.{Lexeme}
+use Rattle.ft_parse.specs.meaning.Language.{Language, Plain, Step, either, lexemes, nothing, repeated, step, times, token, ◌▷◌}
+use Rattle.ft_read.specs.meaning.Limit.{Passes}
 
 -- a lexeme without its place
 abbrev pub shape : Lexeme → Shape

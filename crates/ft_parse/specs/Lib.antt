@@ -1,14 +1,3 @@
-pub mod Counts
-pub mod Cursor
-pub mod Expressions
-pub mod Items
-pub mod Language
-pub mod Laws
-pub mod Levels
-pub mod Lexeme
-pub mod Limit
-pub mod Parse
-pub mod ReadExpressions
-pub mod ReadItems
-pub mod Reading
-pub mod Steps
+pub mod laws
+pub mod meaning
+pub mod parsers

@@ -1,15 +1,13 @@
 ghost use Rattle.std.specs.Prelude.{◌≡◌, codes};
-ghost use Rattle.ft_parse.specs.ReadItems.{as_fact_word, block_by, fact_name_by, fact_part_by, listed_by, several_by};
-ghost use Rattle.ft_parse.specs.Reading.{Gives, begins, can};
-ghost use Rattle.ft_parse.specs.Steps.{one_more};
+ghost use Rattle.ft_parse.specs.parsers.Items.{as_fact_word, block_by, fact_name_by, fact_part_by, listed_by, several_by};
+ghost use Rattle.ft_read.specs.parsers.Combinators.{Gives, begins, can};
+ghost use Rattle.ft_parse.specs.parsers.Steps.{one_more};
 
-use crate::counts::{Items, Sort};
-use crate::cursor::Cursor;
+use crate::counts::{Items, Sort, declared};
 use crate::expressions::expression;
 use crate::lists::names;
-use crate::stop::{LimitWord, Stop};
-use crate::words::{counted_name, declared, sign, word};
 use ft_base::List;
+use ft_read::{Cursor, LimitWord, Stop, counted_name, sign, word};
 use ft_tree::{FactItem, Item, Word};
 use std::alloc::Global;
 
@@ -17,7 +15,7 @@ use std::alloc::Global;
 const MOST_LISTED: usize = 300;
 
 /// The names after this word, where it is there.
-#[tactic(auto, unfolding(crate::specs::ReadItems::listed_by))]
+#[tactic(auto, unfolding(crate::specs::parsers::Items::listed_by))]
 fn listed(alloc: Global, cursor: &mut Cursor, first: &[u8]) -> Result<List<Word>, Stop>
     ensures { Gives (λ names. names) result cursor.new (listed_by first.now cursor.old) }
 {
@@ -31,7 +29,7 @@ fn listed(alloc: Global, cursor: &mut Cursor, first: &[u8]) -> Result<List<Word>
 }
 
 /// The name of a fact, after so many facts of the block.
-#[tactic(auto, unfolding(crate::specs::ReadItems::fact_name_by))]
+#[tactic(auto, unfolding(crate::specs::parsers::Items::fact_name_by))]
 fn fact_name(alloc: Global, cursor: &mut Cursor, before: &Items, facts: usize) -> Result<Word, Stop>
     ensures { Gives (λ name. name) result cursor.new (fact_name_by before.now facts cursor.old) }
 {
@@ -44,7 +42,7 @@ fn fact_name(alloc: Global, cursor: &mut Cursor, before: &Items, facts: usize) -
 }
 
 /// A fact, after so many facts of the block.
-#[tactic(auto, unfolding(crate::specs::ReadItems::fact_part_by))]
+#[tactic(auto, unfolding(crate::specs::parsers::Items::fact_part_by))]
 fn fact(alloc: Global, cursor: &mut Cursor, before: &Items, facts: usize) -> Result<FactItem, Stop>
     ensures { Gives (λ fact. fact) result cursor.new (fact_part_by before.now facts cursor.old) }
 {
@@ -98,7 +96,7 @@ fn facts(alloc: Global, cursor: &mut Cursor, before: &Items) -> Result<List<Fact
 }
 
 /// A block.
-#[tactic(auto, unfolding(crate::specs::ReadItems::block_by))]
+#[tactic(auto, unfolding(crate::specs::parsers::Items::block_by))]
 pub fn block(alloc: Global, cursor: &mut Cursor, before: &Items) -> Result<Item, Stop>
     ensures { Gives (λ item. item) result cursor.new (block_by before.now cursor.old) }
 {

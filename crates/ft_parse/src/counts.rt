@@ -1,10 +1,13 @@
 ghost use Rattle.std.specs.Prelude.{◌≡◌, List, ◌++◌, ◌∷◌, [], OnOk};
 ghost use Rattle.ft_tree.specs.declared.item.Item.{Item};
-ghost use Rattle.ft_parse.specs.Counts.{AreCounted, sort_named};
-ghost use Rattle.ft_parse.specs.Limit.{is_full, no_more_facts};
+ghost use Rattle.ft_read.specs.parsers.Combinators.{Gives};
+ghost use Rattle.ft_parse.specs.parsers.Counts.{AreCounted, sort_named};
+ghost use Rattle.ft_parse.specs.parsers.Items.{declared_by};
+ghost use Rattle.ft_parse.specs.meaning.Room.{is_full, no_more_facts};
 
 use ft_base::{List, NoMemory};
-use ft_tree::Item;
+use ft_read::{Cursor, LimitWord, Stop, counted_name};
+use ft_tree::{Item, Word};
 use std::alloc::Global;
 use std::marker::Model;
 
@@ -45,7 +48,7 @@ impl Model for Items {
     ghost use Rattle.std.specs.Coded.{codes};
     ghost use Rattle.ft_tree.specs.contracts.expr.Expr as expr;
     ghost use Rattle.ft_tree.specs.declared.item.Item.{Item};
-    ghost use Rattle.ft_parse.specs.Counts.{AreCounted};
+    ghost use Rattle.ft_parse.specs.parsers.Counts.{AreCounted};
 
     ghost Value = { List Item };
 
@@ -159,4 +162,18 @@ impl Items {
         self.counts = counts;
         Ok(())
     }
+}
+
+/// Goes past the name of an item of a sort, which is one too many where there is no room for it.
+#[tactic(auto, unfolding(crate::specs::parsers::Items::declared_by))]
+pub fn declared(
+    alloc: Global,
+    cursor: &mut Cursor,
+    before: &Items,
+    sort: Sort,
+    which: LimitWord,
+) -> Result<Word, Stop>
+    ensures { Gives (λ name. name) result cursor.new (declared_by (sort_named sort) which before.now cursor.old) }
+{
+    counted_name(alloc, cursor, before.is_full(sort), which)
 }

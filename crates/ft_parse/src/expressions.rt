@@ -2,19 +2,17 @@ ghost use Rattle.std.specs.Prelude.{◌≡◌, ℕ, List, codes, IfOk};
 ghost use Rattle.ft_base.specs.declared.place.Place.{Place};
 ghost use Rattle.ft_tree.specs.declared.expr.Expr.{Expr};
 ghost use Rattle.ft_tree.specs.declared.expr.Expr.TheVariants as expr;
-ghost use Rattle.ft_parse.specs.Expressions.{negated, signed, whole};
-ghost use Rattle.ft_parse.specs.Levels.{inner_by, level_by, operand_by, ops_of};
-ghost use Rattle.ft_parse.specs.Lexeme.{as_sign, as_word};
-ghost use Rattle.ft_parse.specs.Reading.{Gives};
-ghost use Rattle.ft_parse.specs.ReadExpressions.{atom_by, comparison_by, expression_by, group_by, history_by, negation_by, prefixed_by, right_by, unary_by};
+ghost use Rattle.ft_parse.specs.meaning.Expressions.{negated, signed, whole};
+ghost use Rattle.ft_parse.specs.parsers.Levels.{inner_by, level_by, operand_by};
+ghost use Rattle.ft_read.specs.parsers.Tokens.{ops_of};
+ghost use Rattle.ft_read.specs.meaning.Lexeme.{as_sign, as_word};
+ghost use Rattle.ft_read.specs.parsers.Combinators.{Gives};
+ghost use Rattle.ft_parse.specs.parsers.Expressions.{atom_by, comparison_by, expression_by, group_by, history_by, negation_by, prefixed_by, right_by, unary_by};
 
-use crate::cursor::Cursor;
-use crate::limits::Limits;
-use crate::operators::{Level, is_operator, join, read_operator};
-use crate::parts::Entry;
-use crate::simple::{is_simple, read_simple};
-use crate::stop::Stop;
 use ft_base::{Boxed, NoMemory, Place, Text};
+use ft_read::{
+    Cursor, Entry, Level, Limits, Stop, is_operator, is_simple, join, read_operator, read_simple,
+};
 use ft_tree::Expr;
 use std::alloc::Global;
 
@@ -38,7 +36,7 @@ fn minus(alloc: Global, of: Expr, place: Place) -> Result<Expr, NoMemory>
 }
 
 /// `prev` or `age` with a name in parentheses. It gives the name and the place of the word.
-#[tactic(auto, unfolding(crate::specs::ReadExpressions::history_by))]
+#[tactic(auto, unfolding(crate::specs::parsers::Expressions::history_by))]
 fn history(
     alloc: Global,
     cursor: &mut Cursor,
@@ -58,7 +56,7 @@ fn history(
 
 /// An expression in parentheses.
 #[cycle(expression)]
-#[tactic(auto, using(crate::proofs::LevelLemmas::inner), unfolding(crate::specs::ReadExpressions::group_by))]
+#[tactic(auto, using(crate::proofs::LevelLemmas::inner), unfolding(crate::specs::parsers::Expressions::group_by))]
 fn group(alloc: Global, cursor: &mut Cursor, entry: Entry, room: u32) -> Result<Expr, Stop>
     ensures { Gives (λ e. e) result cursor.new (group_by entry (inner_by room entry) room cursor.old) }
 {
@@ -70,7 +68,7 @@ fn group(alloc: Global, cursor: &mut Cursor, entry: Entry, room: u32) -> Result<
 
 /// A number, a name, a truth, a value of the past, or an expression in parentheses.
 #[cycle(expression)]
-#[tactic(auto, unfolding(crate::specs::ReadExpressions::atom_by))]
+#[tactic(auto, unfolding(crate::specs::parsers::Expressions::atom_by))]
 fn atom(alloc: Global, cursor: &mut Cursor, entry: Entry, room: u32) -> Result<Expr, Stop>
     ensures { Gives (λ e. e) result cursor.new (atom_by entry (inner_by room entry) room cursor.old) }
 {
@@ -90,7 +88,7 @@ fn atom(alloc: Global, cursor: &mut Cursor, entry: Entry, room: u32) -> Result<E
 
 /// A `-` and its operand.
 #[cycle(expression)]
-#[tactic(auto, using(crate::proofs::LevelLemmas::inner), unfolding(crate::specs::ReadExpressions::prefixed_by))]
+#[tactic(auto, using(crate::proofs::LevelLemmas::inner), unfolding(crate::specs::parsers::Expressions::prefixed_by))]
 fn negative(alloc: Global, cursor: &mut Cursor, entry: Entry, room: u32) -> Result<Expr, Stop>
     ensures { Gives (λ e. e) result cursor.new
         (prefixed_by entry room (as_sign (codes "-")) (inner_by room entry signed) expr.Neg cursor.old) }
@@ -102,7 +100,7 @@ fn negative(alloc: Global, cursor: &mut Cursor, entry: Entry, room: u32) -> Resu
 
 /// An operand, with a `-` before it or not.
 #[cycle(expression)]
-#[tactic(auto, unfolding(crate::specs::ReadExpressions::unary_by))]
+#[tactic(auto, unfolding(crate::specs::parsers::Expressions::unary_by))]
 fn unary(alloc: Global, cursor: &mut Cursor, entry: Entry, room: u32) -> Result<Expr, Stop>
     ensures { Gives (λ e. e) result cursor.new (unary_by entry (inner_by room entry) room cursor.old) }
 {
@@ -115,7 +113,7 @@ fn unary(alloc: Global, cursor: &mut Cursor, entry: Entry, room: u32) -> Result<
 
 /// Two sums with an operator that compares between them, or one sum.
 #[cycle(expression)]
-#[tactic(auto, unfolding(crate::specs::ReadExpressions::comparison_by))]
+#[tactic(auto, unfolding(crate::specs::parsers::Expressions::comparison_by))]
 fn comparison(alloc: Global, cursor: &mut Cursor, entry: Entry, room: u32) -> Result<Expr, Stop>
     ensures { Gives (λ e. e) result cursor.new (comparison_by entry (inner_by room entry) room cursor.old) }
 {
@@ -129,7 +127,7 @@ fn comparison(alloc: Global, cursor: &mut Cursor, entry: Entry, room: u32) -> Re
 
 /// A `not` and its operand.
 #[cycle(expression)]
-#[tactic(auto, using(crate::proofs::LevelLemmas::inner), unfolding(crate::specs::ReadExpressions::prefixed_by))]
+#[tactic(auto, using(crate::proofs::LevelLemmas::inner), unfolding(crate::specs::parsers::Expressions::prefixed_by))]
 fn opposite(alloc: Global, cursor: &mut Cursor, entry: Entry, room: u32) -> Result<Expr, Stop>
     ensures { Gives (λ e. e) result cursor.new
         (prefixed_by entry room (as_word (codes "not")) (inner_by room entry negated) expr.Not cursor.old) }
@@ -141,7 +139,7 @@ fn opposite(alloc: Global, cursor: &mut Cursor, entry: Entry, room: u32) -> Resu
 
 /// A comparison, with a `not` before it or not.
 #[cycle(expression)]
-#[tactic(auto, unfolding(crate::specs::ReadExpressions::negation_by))]
+#[tactic(auto, unfolding(crate::specs::parsers::Expressions::negation_by))]
 fn negation(alloc: Global, cursor: &mut Cursor, entry: Entry, room: u32) -> Result<Expr, Stop>
     ensures { Gives (λ e. e) result cursor.new (negation_by entry (inner_by room entry) room cursor.old) }
 {
@@ -175,7 +173,7 @@ fn operand(
 
 /// An operator of a level and its right operand.
 #[cycle(expression)]
-#[tactic(auto, unfolding(crate::specs::ReadExpressions::right_by))]
+#[tactic(auto, unfolding(crate::specs::parsers::Expressions::right_by))]
 fn right(
     alloc: Global,
     cursor: &mut Cursor,

@@ -1,25 +1,20 @@
 ghost use Rattle.std.specs.Prelude.{◌≡◌, codes};
-ghost use Rattle.ft_parse.specs.Lexeme.{as_sign};
-ghost use Rattle.ft_parse.specs.ReadItems.{clause_by, constant_by, item_part_by, members_by, range_type_by, sided_by, signed_number_by, type_item_by};
-ghost use Rattle.ft_parse.specs.Reading.{Gives, can, either_by};
-ghost use Rattle.ft_parse.specs.Steps.{worded_by};
+ghost use Rattle.ft_read.specs.meaning.Lexeme.{as_sign};
+ghost use Rattle.ft_parse.specs.parsers.Items.{clause_by, constant_by, item_part_by, members_by, range_type_by, sided_by, signed_number_by, type_item_by};
+ghost use Rattle.ft_read.specs.parsers.Combinators.{Gives, can, either_by};
+ghost use Rattle.ft_parse.specs.parsers.Steps.{worded_by};
 
 use crate::blocks::block;
-use crate::bounds::{bound, upper};
-use crate::choices::{
-    is_map, is_side, is_var_word, read_map, read_moment, read_side, read_var_word,
-};
-use crate::counts::{Items, Sort};
-use crate::cursor::Cursor;
+use crate::counts::{Items, Sort, declared};
 use crate::expressions::expression;
-use crate::limits::Limits;
 use crate::lists::names;
 use crate::memories::{held, hyst};
-use crate::parts::SectionAt;
-use crate::stop::{LimitWord, Stop};
 use crate::tables::table;
 use crate::variables::{inner_words, variable};
-use crate::words::{declared, number, sign, word};
+use ft_read::{
+    Cursor, LimitWord, Limits, SectionAt, Stop, bound, is_map, is_side, is_var_word, number,
+    read_map, read_moment, read_side, read_var_word, sign, upper, word,
+};
 use ft_tree::{Item, Number, Word};
 use std::alloc::Global;
 
@@ -27,7 +22,7 @@ use std::alloc::Global;
 const MOST_MEMBERS: usize = 64;
 
 /// A number, and whether a `-` stands before it.
-#[tactic(auto, unfolding(crate::specs::ReadItems::signed_number_by))]
+#[tactic(auto, unfolding(crate::specs::parsers::Items::signed_number_by))]
 fn signed_number(cursor: &mut Cursor) -> Result<(bool, Number), Stop>
     ensures { Gives (λ read. read) result cursor.new (signed_number_by cursor.old) }
 {
@@ -41,7 +36,7 @@ fn signed_number(cursor: &mut Cursor) -> Result<(bool, Number), Stop>
 }
 
 /// A constant.
-#[tactic(auto, unfolding(crate::specs::ReadItems::constant_by))]
+#[tactic(auto, unfolding(crate::specs::parsers::Items::constant_by))]
 fn constant(alloc: Global, cursor: &mut Cursor, before: &Items) -> Result<Item, Stop>
     ensures { Gives (λ item. item) result cursor.new (constant_by before.now cursor.old) }
 {
@@ -54,7 +49,7 @@ fn constant(alloc: Global, cursor: &mut Cursor, before: &Items) -> Result<Item, 
 }
 
 /// The members of a type in braces.
-#[tactic(auto, unfolding(crate::specs::ReadItems::members_by))]
+#[tactic(auto, unfolding(crate::specs::parsers::Items::members_by))]
 fn members(alloc: Global, cursor: &mut Cursor, name: Word) -> Result<Item, Stop>
     ensures { Gives (λ item. item) result cursor.new (members_by name cursor.old) }
 {
@@ -65,7 +60,7 @@ fn members(alloc: Global, cursor: &mut Cursor, name: Word) -> Result<Item, Stop>
 }
 
 /// The range of a type.
-#[tactic(auto, unfolding(crate::specs::ReadItems::range_type_by))]
+#[tactic(auto, unfolding(crate::specs::parsers::Items::range_type_by))]
 fn range_type(alloc: Global, cursor: &mut Cursor, name: Word) -> Result<Item, Stop>
     ensures { Gives (λ item. item) result cursor.new (range_type_by name cursor.old) }
 {
@@ -87,7 +82,7 @@ fn type_values(alloc: Global, cursor: &mut Cursor, name: Word) -> Result<Item, S
 }
 
 /// A type.
-#[tactic(auto, unfolding(crate::specs::ReadItems::type_item_by))]
+#[tactic(auto, unfolding(crate::specs::parsers::Items::type_item_by))]
 fn type_item(alloc: Global, cursor: &mut Cursor, before: &Items) -> Result<Item, Stop>
     ensures { Gives (λ item. item) result cursor.new (type_item_by before.now cursor.old) }
 {
@@ -100,7 +95,7 @@ fn type_item(alloc: Global, cursor: &mut Cursor, before: &Items) -> Result<Item,
 }
 
 /// A clause on the environment.
-#[tactic(auto, unfolding(crate::specs::ReadItems::clause_by))]
+#[tactic(auto, unfolding(crate::specs::parsers::Items::clause_by))]
 fn clause(alloc: Global, cursor: &mut Cursor, before: &Items) -> Result<Item, Stop>
     ensures { Gives (λ item. item) result cursor.new (clause_by before.now cursor.old) }
 {
@@ -116,7 +111,7 @@ fn clause(alloc: Global, cursor: &mut Cursor, before: &Items) -> Result<Item, St
 }
 
 /// What stands after the word of a side.
-#[tactic(auto, unfolding(crate::specs::ReadItems::sided_by))]
+#[tactic(auto, unfolding(crate::specs::parsers::Items::sided_by))]
 fn sided(alloc: Global, cursor: &mut Cursor, before: &Items, side: SectionAt) -> Result<Item, Stop>
     ensures { Gives (λ item. item) result cursor.new (sided_by before.now side cursor.old) }
 {
@@ -158,7 +153,7 @@ fn worded_item(alloc: Global, cursor: &mut Cursor, before: &Items) -> Result<Ite
 }
 
 /// An item, after these.
-#[tactic(auto, unfolding(crate::specs::ReadItems::item_part_by))]
+#[tactic(auto, unfolding(crate::specs::parsers::Items::item_part_by))]
 pub fn item(alloc: Global, cursor: &mut Cursor, before: &Items) -> Result<Item, Stop>
     ensures { Gives (λ item. item) result cursor.new (item_part_by before.now cursor.old) }
 {

@@ -1,4 +1,4 @@
-ghost use Rattle.ft_parse.specs.Laws.{FaultOrTree, OneFault, OneTree};
+ghost use Rattle.ft_parse.specs.laws.Uniqueness.{FaultOrTree, OneFault, OneTree};
 
 use ft_lex::one_tokens;
 

@@ -2,27 +2,20 @@
 #![tactic(auto)]
 
 mod blocks;
-mod bounds;
-mod choices;
 mod counts;
-mod cursor;
 mod expressions;
+mod fault;
 mod items;
 mod law;
-mod lexeme;
-mod limits;
 mod lists;
 mod memories;
-mod operators;
 mod parsing;
 mod parts;
 mod sets;
-mod simple;
-mod stop;
 mod tables;
 mod variables;
-mod words;
 
+pub use fault::ParseFault;
+pub use ft_read::LimitWord;
 pub use law::{fault_or_tree, one_fault, one_tree};
 pub use parsing::parse;
-pub use stop::{LimitWord, ParseFault};

@@ -1,12 +1,10 @@
 ghost use Rattle.std.specs.Prelude.{◌≡◌};
-ghost use Rattle.ft_parse.specs.ReadItems.{entries_by, more_entries_by, more_names_by, names_by};
-ghost use Rattle.ft_parse.specs.Reading.{Gives};
+ghost use Rattle.ft_parse.specs.parsers.Items.{entries_by, more_entries_by, more_names_by, names_by};
+ghost use Rattle.ft_read.specs.parsers.Combinators.{Gives};
 
-use crate::cursor::Cursor;
 use crate::expressions::expression;
-use crate::stop::{LimitWord, Stop};
-use crate::words::{counted_name, name, sign};
 use ft_base::List;
+use ft_read::{Cursor, LimitWord, Stop, counted_name, name, sign};
 use ft_tree::{Expr, Word};
 use std::alloc::Global;
 
@@ -14,7 +12,7 @@ use std::alloc::Global;
 const MOST_ENTRIES: usize = 32;
 
 /// A comma and an entry more.
-#[tactic(auto, unfolding(crate::specs::ReadItems::more_entries_by))]
+#[tactic(auto, unfolding(crate::specs::parsers::Items::more_entries_by))]
 fn more_entries(alloc: Global, cursor: &mut Cursor, entries: &mut List<Expr>) -> Result<(), Stop>
     ensures { Gives (λ _. entries.new) result cursor.new (more_entries_by entries.old cursor.old) }
 {
@@ -25,7 +23,7 @@ fn more_entries(alloc: Global, cursor: &mut Cursor, entries: &mut List<Expr>) ->
 }
 
 /// The entries of a header or of a row.
-#[tactic(auto, using(crate::proofs::ListLemmas::entries), unfolding(crate::specs::ReadItems::entries_by))]
+#[tactic(auto, using(crate::proofs::ListLemmas::entries), unfolding(crate::specs::parsers::Items::entries_by))]
 pub fn entries(alloc: Global, cursor: &mut Cursor) -> Result<List<Expr>, Stop>
     ensures { Gives (λ entries. entries) result cursor.new (entries_by cursor.old) }
 {
@@ -38,7 +36,7 @@ pub fn entries(alloc: Global, cursor: &mut Cursor) -> Result<List<Expr>, Stop>
 }
 
 /// A comma and a name more, of which there may be so many.
-#[tactic(auto, unfolding(crate::specs::ReadItems::more_names_by))]
+#[tactic(auto, unfolding(crate::specs::parsers::Items::more_names_by))]
 fn more_names(
     alloc: Global,
     cursor: &mut Cursor,
@@ -55,7 +53,7 @@ fn more_names(
 }
 
 /// Names with commas between them, at most so many.
-#[tactic(auto, using(crate::proofs::ListLemmas::names), unfolding(crate::specs::ReadItems::names_by))]
+#[tactic(auto, using(crate::proofs::ListLemmas::names), unfolding(crate::specs::parsers::Items::names_by))]
 pub fn names(
     alloc: Global,
     cursor: &mut Cursor,

@@ -1,15 +1,11 @@
 ghost use Rattle.std.specs.Prelude.{◌≡◌};
-ghost use Rattle.ft_parse.specs.ReadItems.{held_by, hyst_by};
-ghost use Rattle.ft_parse.specs.Reading.{Gives};
-ghost use Rattle.ft_parse.specs.Steps.{close_by, condition_by, limits_by};
+ghost use Rattle.ft_parse.specs.parsers.Items.{held_by, hyst_by};
+ghost use Rattle.ft_read.specs.parsers.Combinators.{Gives};
+ghost use Rattle.ft_parse.specs.parsers.Steps.{close_by, condition_by, limits_by};
 
-use crate::bounds::{bound, plain_bound};
-use crate::choices::read_start;
-use crate::counts::{Items, Sort};
-use crate::cursor::Cursor;
+use crate::counts::{Items, Sort, declared};
 use crate::expressions::expression;
-use crate::stop::{LimitWord, Stop};
-use crate::words::{declared, sign, word};
+use ft_read::{Cursor, LimitWord, Stop, bound, plain_bound, read_start, sign, word};
 use ft_tree::{Bound, Expr, Item, SectionWord, Word};
 use std::alloc::Global;
 

@@ -2,16 +2,17 @@ ghost use Rattle.std.specs.Prelude.{◌≡◌, ◌<◌, ◌-◌, ◌^◌, List, 
 ghost use Rattle.std.specs.List.{All};
 ghost use Rattle.ft_lex.specs.Tokens.{IsTokens, LiesIn};
 ghost use Rattle.ft_tree.specs.declared.tree.Tree.{Tree};
-ghost use Rattle.ft_tree.specs.Canonical.{canonical};
-ghost use Rattle.ft_tree.specs.Limits.{IsSet};
+ghost use Rattle.ft_tree.specs.meaning.Canonical.{canonical};
+ghost use Rattle.ft_tree.specs.meaning.Limits.{IsSet};
 ghost use Rattle.ft_lex.specs.declared.token.Token.{Token};
-ghost use Rattle.ft_parse.specs.Parse.{IsAhead, IsFault, IsFaultOf, Reads, ReadsSame, Spells, parts_of};
+ghost use Rattle.ft_parse.specs.parsers.Faults.{IsAhead, IsFaultOf};
+ghost use Rattle.ft_parse.specs.meaning.Parse.{IsFault, Reads, ReadsSame, Spells, parts_of};
 
-use crate::cursor::Cursor;
+use crate::fault::ParseFault;
 use crate::parts::Parts;
 use crate::sets::set;
-use crate::stop::{ParseFault, Stop};
 use ft_lex::{Token, tokens};
+use ft_read::{Cursor, Stop};
 use ft_tree::{Tree, canonical_tokens};
 use std::alloc::Global;
 

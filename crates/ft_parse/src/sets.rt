@@ -1,16 +1,14 @@
 ghost use Rattle.std.specs.Prelude.{◌≡◌, []};
-ghost use Rattle.ft_parse.specs.ReadItems.{is_item_start, more_items_by, set_by, setting_by};
-ghost use Rattle.ft_parse.specs.Reading.{Gives, begins, many};
-ghost use Rattle.ft_parse.specs.Steps.{start_by};
+ghost use Rattle.ft_parse.specs.parsers.Items.{is_item_start, more_items_by, set_by, setting_by};
+ghost use Rattle.ft_read.specs.parsers.Combinators.{Gives, begins};
+ghost use Rattle.ft_parse.specs.parsers.Repetition.{many};
+ghost use Rattle.ft_parse.specs.parsers.Steps.{start_by};
 
-use crate::choices::{is_map, is_side, is_var_word};
 use crate::counts::Items;
-use crate::cursor::Cursor;
 use crate::items::item;
 use crate::parts::Parts;
-use crate::stop::Stop;
-use crate::words::{name, number, sign, word};
 use ft_base::Text;
+use ft_read::{Cursor, Stop, is_map, is_side, is_var_word, name, number, sign, word};
 use ft_tree::Number;
 use std::alloc::Global;
 
@@ -29,7 +27,7 @@ fn head(alloc: Global, cursor: &mut Cursor) -> Result<(Text, Number), Stop>
 }
 
 /// The number after this word, where it is there.
-#[tactic(auto, unfolding(crate::specs::ReadItems::setting_by))]
+#[tactic(auto, unfolding(crate::specs::parsers::Items::setting_by))]
 fn setting(cursor: &mut Cursor, first: &[u8]) -> Result<Option<Number>, Stop>
     ensures { Gives (λ setting. setting) result cursor.new (setting_by first.now cursor.old) }
 {
@@ -57,7 +55,7 @@ fn is_item(cursor: &Cursor) -> bool
 }
 
 /// An item more.
-#[tactic(auto, unfolding(crate::specs::ReadItems::more_items_by))]
+#[tactic(auto, unfolding(crate::specs::parsers::Items::more_items_by))]
 fn more_items(alloc: Global, cursor: &mut Cursor, items: &mut Items) -> Result<(), Stop>
     ensures { Gives (λ _. items.new) result cursor.new (more_items_by items.old cursor.old) }
 {

@@ -4,20 +4,16 @@ ghost use Rattle.ft_tree.specs.declared.item.Item.{Item};
 ghost use Rattle.ft_tree.specs.declared.item.Item.TheVariants as item;
 ghost use Rattle.ft_tree.specs.declared.item.Row.{Row};
 ghost use Rattle.ft_tree.specs.declared.item.Word.{Word};
-ghost use Rattle.ft_parse.specs.Lexeme.{as_word};
-ghost use Rattle.ft_parse.specs.ReadItems.{grid_by, header_by, row_by, row_word_by, several_by, table_by, vector_grid_by, vrow_by};
-ghost use Rattle.ft_parse.specs.Reading.{Gives, can};
-ghost use Rattle.ft_parse.specs.Steps.{one_more, vector_by};
+ghost use Rattle.ft_read.specs.meaning.Lexeme.{as_word};
+ghost use Rattle.ft_parse.specs.parsers.Items.{grid_by, header_by, row_by, row_word_by, several_by, table_by, vector_grid_by, vrow_by};
+ghost use Rattle.ft_read.specs.parsers.Combinators.{Gives, can};
+ghost use Rattle.ft_parse.specs.parsers.Steps.{one_more, vector_by};
 
-use crate::counts::{Items, Sort};
-use crate::cursor::Cursor;
+use crate::counts::{Items, Sort, declared};
 use crate::expressions::expression;
-use crate::limits::Limits;
 use crate::lists::entries;
-use crate::parts::SectionAt;
-use crate::stop::{LimitWord, Stop};
-use crate::words::{declared, name, sign, word};
 use ft_base::{List, Place};
+use ft_read::{Cursor, LimitWord, Limits, SectionAt, Stop, name, sign, word};
 use ft_tree::{Expr, Item, Row, SectionWord, VRow, Word};
 use std::alloc::Global;
 
@@ -25,7 +21,7 @@ use std::alloc::Global;
 const MOST_ROWS: usize = 32;
 
 /// The word of a row, after so many rows.
-#[tactic(auto, unfolding(crate::specs::ReadItems::row_word_by))]
+#[tactic(auto, unfolding(crate::specs::parsers::Items::row_word_by))]
 fn row_word(cursor: &mut Cursor, before: usize) -> Result<Place, Stop>
     ensures { Gives (λ place. place) result cursor.new (row_word_by before cursor.old) }
 {
@@ -37,7 +33,7 @@ fn row_word(cursor: &mut Cursor, before: usize) -> Result<Place, Stop>
 }
 
 /// A row of a table that defines one variable.
-#[tactic(auto, unfolding(crate::specs::ReadItems::row_by))]
+#[tactic(auto, unfolding(crate::specs::parsers::Items::row_by))]
 fn row(alloc: Global, cursor: &mut Cursor, before: usize) -> Result<Row, Stop>
     ensures { Gives (λ row. row) result cursor.new (row_by before cursor.old) }
 {
@@ -76,7 +72,7 @@ fn rows(alloc: Global, cursor: &mut Cursor) -> Result<List<Row>, Stop>
 }
 
 /// A row of a vector table.
-#[tactic(auto, unfolding(crate::specs::ReadItems::vrow_by))]
+#[tactic(auto, unfolding(crate::specs::parsers::Items::vrow_by))]
 fn vector_row(alloc: Global, cursor: &mut Cursor, before: usize) -> Result<VRow, Stop>
     ensures { Gives (λ row. row) result cursor.new (vrow_by before cursor.old) }
 {
@@ -115,7 +111,7 @@ fn vector_rows(alloc: Global, cursor: &mut Cursor) -> Result<List<VRow>, Stop>
 }
 
 /// The header of a table, which begins with this word.
-#[tactic(auto, unfolding(crate::specs::ReadItems::header_by))]
+#[tactic(auto, unfolding(crate::specs::parsers::Items::header_by))]
 fn header(alloc: Global, cursor: &mut Cursor, first: &[u8]) -> Result<List<Expr>, Stop>
     ensures { Gives (λ entries. entries) result cursor.new (header_by first.now cursor.old) }
 {
@@ -134,7 +130,7 @@ struct GridParts {
 }
 
 /// The rest of a table that defines one variable, whose header begins with this word.
-#[tactic(auto, unfolding(crate::specs::ReadItems::grid_by))]
+#[tactic(auto, unfolding(crate::specs::parsers::Items::grid_by))]
 fn grid(alloc: Global, cursor: &mut Cursor, before: &Items, first: &[u8]) -> Result<GridParts, Stop>
     ensures { (make : Word → List Expr → List Row → Item)
         → Gives (λ grid. make grid.target grid.header grid.rows) result cursor.new (grid_by before.now first.now make cursor.old) }
@@ -176,7 +172,7 @@ fn inverted(section: SectionWord, grid: GridParts) -> Item
 }
 
 /// The rest of a vector table.
-#[tactic(auto, unfolding(crate::specs::ReadItems::vector_grid_by))]
+#[tactic(auto, unfolding(crate::specs::parsers::Items::vector_grid_by))]
 fn vector_grid(alloc: Global, cursor: &mut Cursor, section: SectionWord) -> Result<Item, Stop>
     ensures { Gives (λ item. item) result cursor.new (vector_grid_by section cursor.old) }
 {
@@ -210,7 +206,7 @@ fn vector(
 }
 
 /// A table after its section.
-#[tactic(auto, unfolding(crate::specs::ReadItems::table_by))]
+#[tactic(auto, unfolding(crate::specs::parsers::Items::table_by))]
 pub fn table(
     alloc: Global,
     cursor: &mut Cursor,

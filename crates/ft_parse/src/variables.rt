@@ -1,13 +1,10 @@
 ghost use Rattle.std.specs.Prelude.{◌≡◌};
-ghost use Rattle.ft_parse.specs.Items.{inner_variable};
-ghost use Rattle.ft_parse.specs.ReadItems.{variable_by};
-ghost use Rattle.ft_parse.specs.Reading.{Gives};
+ghost use Rattle.ft_parse.specs.meaning.Items.{inner_variable};
+ghost use Rattle.ft_parse.specs.parsers.Items.{variable_by};
+ghost use Rattle.ft_read.specs.parsers.Combinators.{Gives};
 
-use crate::bounds::{kind, value};
-use crate::counts::{Items, Sort};
-use crate::cursor::Cursor;
-use crate::stop::{LimitWord, Stop};
-use crate::words::{declared, sign, word};
+use crate::counts::{Items, Sort, declared};
+use ft_read::{Cursor, LimitWord, Stop, kind, sign, value, word};
 use ft_tree::{Item, SectionWord, VarWord};
 use std::alloc::Global;
 
@@ -22,7 +19,7 @@ pub fn inner_words(side: SectionWord) -> VarWord
 }
 
 /// A variable after its words.
-#[tactic(auto, unfolding(crate::specs::ReadItems::variable_by))]
+#[tactic(auto, unfolding(crate::specs::parsers::Items::variable_by))]
 pub fn variable(
     alloc: Global,
     cursor: &mut Cursor,

@@ -7,8 +7,9 @@ use Rattle.std.proofs.lemmas.List.Concat.{flat_map-cons}
 use Rattle.ft_tree.specs.declared.writer.Last.{Last}
 use Rattle.ft_tree.specs.declared.writer.Last.TheVariants.{Start}
 use Rattle.ft_tree.specs.declared.writer.Writer.{Writer}
-use Rattle.ft_tree.specs.Line.{Line, Piece, gap, hugs_after, hugs_before, is_history, line_bytes, line_text, piece_text, text_after}
-use Rattle.ft_tree.specs.Writing.{after, closed, gap_of, indented, last_of, put, with_line, with_lines}
+use Rattle.ft_tree.specs.meaning.Line.{Line, Piece, gap, hugs_after, hugs_before, is_history, line_bytes, line_text, piece_text}
+use Rattle.ft_tree.specs.meaning.Line.{text_after}
+use Rattle.ft_tree.specs.writing.Writer.{after, closed, gap_of, indented, last_of, put, with_line, with_lines}
 use Rattle.ft_tree.proofs.WritingLemmas.{after-cons, after-none, lines-cons, lines-none}
 
 -- what is known of the last token tells the space after it

@@ -12,7 +12,7 @@ use Rattle.ft_lex.specs.Bytes.{begins_space, is_blank}
 use Rattle.ft_lex.specs.Place.{place_after}
 use Rattle.ft_lex.specs.Space.{blank, spaced, ArePieces, IsSpaceBefore}
 use Rattle.ft_lex.specs.Tokens.{AreTokensFrom, Begins, IsNext, IsShape, is_last}
-use Rattle.ft_tree.specs.Tokens.{Shape, token_shape}
+use Rattle.ft_tree.specs.laws.Tokens.{Shape, token_shape}
 
 -- blanks, as pieces of space
 spaced-blanks : (space rest : List ℕ) → spaced (map blank space) rest ≡ space ++ rest

@@ -20,8 +20,8 @@ use Rattle.ft_lex.specs.Reading.{SignsLongest, first_len, sign_len}
 use Rattle.ft_lex.specs.Tokens.{Begins, IsShape, is_last}
 use Rattle.ft_lex.specs.Signs.{signs}
 use Rattle.ft_base.specs.Reserved.{found-passes, reserved-begins}
-use Rattle.ft_tree.specs.Line.{Piece, token, minus, gap, hugs_after, hugs_before, is_history, is_open, piece_text, text_after}
-use Rattle.ft_tree.specs.Tokens.{Shape, kind_of, piece_shape}
+use Rattle.ft_tree.specs.meaning.Line.{Piece, token, minus, gap, hugs_after, hugs_before, is_history, is_open, piece_text, text_after}
+use Rattle.ft_tree.specs.laws.Tokens.{Shape, kind_of, piece_shape}
 use Rattle.ft_tree.proofs.MadeLemmas.{IsMade, Stands, made-after_blanks, made-more}
 
 -- a name or a reserved word

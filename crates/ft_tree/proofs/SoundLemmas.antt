@@ -16,13 +16,14 @@ use Rattle.ft_tree.specs.declared.expr.Expr.{Expr}
 use Rattle.ft_tree.specs.declared.expr.Expr.TheVariants.{Two}
 use Rattle.ft_tree.specs.declared.level.Level.{Level}
 use Rattle.ft_tree.specs.declared.level.Level.TheVariants.{Negation, Unary}
-use Rattle.ft_tree.specs.Expression.{Spelled, expr_pieces, history, operand, spelled, truth_word}
-use Rattle.ft_tree.specs.Level.{is_looser, left_level, op_sign, right_level}
-use Rattle.ft_tree.specs.Limits.{is_lawful, is_number}
-use Rattle.ft_tree.specs.Line.{Piece, token, minus}
-use Rattle.ft_tree.specs.Lines.{listed}
-use Rattle.ft_tree.specs.ExprParts.{ExprInductive, expr_induction, lawful-Num, lawful-Name, lawful-Prev, lawful-Age, lawful-Not, lawful-Neg, lawful-Two}
-use Rattle.ft_tree.specs.ExprParts.{spelled-Num, spelled-Name, spelled-Truth, spelled-Prev, spelled-Age, spelled-Not, spelled-Neg, spelled-Two}
+use Rattle.ft_tree.specs.meaning.Expression.{Spelled, expr_pieces, history, operand, spelled, truth_word}
+use Rattle.ft_tree.specs.meaning.Level.{is_looser, left_level, op_sign, right_level}
+use Rattle.ft_tree.specs.meaning.Limits.{is_lawful, is_number}
+use Rattle.ft_tree.specs.meaning.Line.{Piece, token, minus}
+use Rattle.ft_tree.specs.meaning.Lines.{listed}
+use Rattle.ft_tree.specs.laws.ExprParts.{ExprInductive, expr_induction, lawful-Num, lawful-Name, lawful-Prev, lawful-Age, lawful-Not}
+use Rattle.ft_tree.specs.laws.ExprParts.{lawful-Neg, lawful-Two, spelled-Num, spelled-Name, spelled-Truth, spelled-Prev, spelled-Age}
+use Rattle.ft_tree.specs.laws.ExprParts.{spelled-Not, spelled-Neg, spelled-Two}
 use Rattle.ft_tree.proofs.PieceLemmas.{is_digits, is_sign_text, is_sound, is_token, is_word_text}
 
 -- a name is the text of a token

@@ -24,18 +24,24 @@ use Rattle.ft_tree.specs.declared.item.VRow.{VRow}
 use Rattle.ft_tree.specs.declared.item.FactItem.{FactItem}
 use Rattle.ft_tree.specs.declared.item.FactItem.TheVariants.{Shows, Goal}
 use Rattle.ft_tree.specs.declared.item.Item.{Item}
-use Rattle.ft_tree.specs.declared.item.Item.TheVariants.{Constant, RangeType, EnumType, Variable, Held, Hyst, Normal, Inverted, Vector, Nat, Block}
-use Rattle.ft_tree.specs.Expression.{expr_pieces, truth_word}
+use Rattle.ft_tree.specs.declared.item.Item.TheVariants.{Constant, RangeType, EnumType, Variable, Held, Hyst, Normal, Inverted, Vector}
+use Rattle.ft_tree.specs.declared.item.Item.TheVariants.{Nat, Block}
+use Rattle.ft_tree.specs.meaning.Expression.{expr_pieces, truth_word}
 use Rattle.ft_base.specs.Names.{is_name}
-use Rattle.ft_tree.specs.Limits.{IsSet, are_entries, are_listed, is_bound, is_count, is_expr, is_fact, is_hold, is_init, is_init_value, is_item, is_kind, is_lawful, is_number, is_option, is_plain, is_row, is_side, is_vrow, is_word, nested}
-use Rattle.ft_tree.specs.Line.{Line, Piece, outer, token}
-use Rattle.ft_tree.specs.Lines.{band_pieces, block_lines, body_lines, bound_pieces, brace_line, constant_pieces, ended, enum_type_pieces, exprs_line, exprs_pieces}
-use Rattle.ft_tree.specs.Lines.{fact_line, head_line, held_pieces, hyst_pieces, item_lines, kind_pieces, memory_head, moment_text, names_pieces, nat_pieces}
-use Rattle.ft_tree.specs.Lines.{one_line, option_lines, part_lines, period_pieces, plain_text, range_pieces, range_type_pieces, row_line, section_text, set_lines, set_pieces}
-use Rattle.ft_tree.specs.Lines.{sign_pieces, table_head, table_lines, var_pieces, variable_pieces, vector_head, vrow_line, word_pieces}
+use Rattle.ft_tree.specs.meaning.Limits.{IsSet, are_entries, are_listed, is_bound, is_count, is_expr, is_fact, is_hold, is_init}
+use Rattle.ft_tree.specs.meaning.Limits.{is_init_value, is_item, is_kind, is_lawful, is_number, is_option, is_plain, is_row, is_side}
+use Rattle.ft_tree.specs.meaning.Limits.{is_vrow, is_word, nested}
+use Rattle.ft_tree.specs.meaning.Line.{Line, Piece, outer, token}
+use Rattle.ft_tree.specs.meaning.Lines.{band_pieces, block_lines, body_lines, bound_pieces, brace_line, constant_pieces, ended}
+use Rattle.ft_tree.specs.meaning.Lines.{enum_type_pieces, exprs_line, exprs_pieces, fact_line, head_line, held_pieces, hyst_pieces}
+use Rattle.ft_tree.specs.meaning.Lines.{item_lines, kind_pieces, memory_head, moment_text, names_pieces, nat_pieces, one_line}
+use Rattle.ft_tree.specs.meaning.Lines.{option_lines, part_lines, period_pieces, plain_text, range_pieces, range_type_pieces, row_line}
+use Rattle.ft_tree.specs.meaning.Lines.{section_text, set_lines, set_pieces, sign_pieces, table_head, table_lines, var_pieces}
+use Rattle.ft_tree.specs.meaning.Lines.{variable_pieces, vector_head, vrow_line, word_pieces}
 use Rattle.ft_tree.proofs.LineLemmas.{is_sound_line}
 use Rattle.ft_tree.proofs.PieceLemmas.{is_token}
-use Rattle.ft_tree.proofs.SoundLemmas.{AreSound, expr-sound, listed-sound, more-pieces, more-minus, more-token, one-token, name-token, no-pieces, number-token, truth-token}
+use Rattle.ft_tree.proofs.SoundLemmas.{AreSound, expr-sound, listed-sound, more-pieces, more-minus, more-token, one-token, name-token}
+use Rattle.ft_tree.proofs.SoundLemmas.{no-pieces, number-token, truth-token}
 
 pub record AreSoundLines (lines : List Line) : Type 0 where
   pub all : list_all is_sound_line lines ≡ true

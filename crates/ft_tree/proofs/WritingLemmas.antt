@@ -5,9 +5,9 @@ use Rattle.std.proofs.lemmas.Grind.{flat_map-append}
 use Rattle.std.proofs.lemmas.List.{append-nil, map-append, take_all, take_more}
 use Rattle.std.proofs.lemmas.List.Concat.{flat_map-cons}
 use Rattle.ft_tree.specs.declared.writer.Writer.{Writer}
-use Rattle.ft_tree.specs.Line.{Line, Piece, token}
-use Rattle.ft_tree.specs.Lines.{listed}
-use Rattle.ft_tree.specs.Writing.{after, closed, indented, put, with_line, with_lines}
+use Rattle.ft_tree.specs.meaning.Line.{Line, Piece, token}
+use Rattle.ft_tree.specs.meaning.Lines.{listed}
+use Rattle.ft_tree.specs.writing.Writer.{after, closed, indented, put, with_line, with_lines}
 
 pub after-none : (w : Writer) → after w [] ≡ w
 unfolding after

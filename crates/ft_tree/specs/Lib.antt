@@ -1,10 +1,3 @@
-pub mod Bare
-pub mod Canonical
-pub mod ExprParts
-pub mod Expression
-pub mod Level
-pub mod Limits
-pub mod Line
-pub mod Lines
-pub mod Tokens
-pub mod Writing
+pub mod laws
+pub mod meaning
+pub mod writing

@@ -1,9 +1,9 @@
 ghost use Rattle.std.specs.Prelude.{◌≡◌, IfOk, Option, OnOk};
 ghost use Rattle.std.specs.List.{flat_map};
-ghost use Rattle.ft_tree.specs.Canonical.{canonical};
-ghost use Rattle.ft_tree.specs.Line.{line_bytes};
-ghost use Rattle.ft_tree.specs.Lines.{item_lines, one_line, option_lines, period_pieces, set_lines, set_pieces};
-ghost use Rattle.ft_tree.specs.Writing.{with_lines};
+ghost use Rattle.ft_tree.specs.meaning.Canonical.{canonical};
+ghost use Rattle.ft_tree.specs.meaning.Line.{line_bytes};
+ghost use Rattle.ft_tree.specs.meaning.Lines.{item_lines, one_line, option_lines, period_pieces, set_lines, set_pieces};
+ghost use Rattle.ft_tree.specs.writing.Writer.{with_lines};
 
 use crate::item::{Item, Number};
 use crate::items::write_item;

@@ -1,6 +1,6 @@
 ghost use Rattle.std.specs.Prelude.{◌≡◌, OnOk};
-ghost use Rattle.ft_tree.specs.Expression.{expr_pieces, history, operand, spelled, truth_word};
-ghost use Rattle.ft_tree.specs.Writing.{after};
+ghost use Rattle.ft_tree.specs.meaning.Expression.{expr_pieces, history, operand, spelled, truth_word};
+ghost use Rattle.ft_tree.specs.writing.Writer.{after};
 
 use crate::expr::Expr;
 use crate::level::Level;
@@ -42,7 +42,7 @@ fn write_history(writer: &mut Writer, word: &[u8], name: &Text) -> Result<(), No
 
 // An operand, in parentheses where it is looser than its place takes.
 #[cycle(expressions)]
-#[tactic(auto, using(crate::proofs::ExprLemmas::expressions), unfolding(crate::specs::Expression::operand))]
+#[tactic(auto, using(crate::proofs::ExprLemmas::expressions), unfolding(crate::specs::meaning::Expression::operand))]
 fn write_operand(writer: &mut Writer, expr: &Expr, needed: Level) -> Result<(), NoMemory>
     ensures { OnOk result (writer.new ≡ after writer.old (operand needed (spelled expr.now))) }
 {
@@ -57,7 +57,7 @@ fn write_operand(writer: &mut Writer, expr: &Expr, needed: Level) -> Result<(), 
 
 /// The tokens of an expression.
 #[cycle(expressions)]
-#[tactic(auto, using(crate::proofs::ExprLemmas::expressions), unfolding(crate::specs::Expression::operand))]
+#[tactic(auto, using(crate::proofs::ExprLemmas::expressions), unfolding(crate::specs::meaning::Expression::operand))]
 pub fn write_expr(writer: &mut Writer, expr: &Expr) -> Result<(), NoMemory>
     ensures { OnOk result (writer.new ≡ after writer.old (expr_pieces expr.now)) }
 {

@@ -1,4 +1,4 @@
-ghost use Rattle.ft_tree.specs.Tokens.{CanonicalTokens};
+ghost use Rattle.ft_tree.specs.laws.Tokens.{CanonicalTokens};
 
 use ft_lex::signs_longest;
 

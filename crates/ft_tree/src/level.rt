@@ -1,5 +1,5 @@
 ghost use Rattle.std.specs.Prelude.{◌≡◌};
-ghost use Rattle.ft_tree.specs.Level.{is_looser, left_level, op_level, op_sign, rank, right_level};
+ghost use Rattle.ft_tree.specs.meaning.Level.{is_looser, left_level, op_level, op_sign, rank, right_level};
 
 use crate::expr::Op;
 

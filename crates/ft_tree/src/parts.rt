@@ -1,8 +1,8 @@
 ghost use Rattle.std.specs.Prelude.{◌≡◌, List, OnOk};
-ghost use Rattle.ft_tree.specs.Expression.{expr_pieces};
-ghost use Rattle.ft_tree.specs.Line.{Piece, token};
-ghost use Rattle.ft_tree.specs.Lines.{bound_pieces, kind_pieces, listed, plain_text, range_pieces, sign_pieces, word_pieces};
-ghost use Rattle.ft_tree.specs.Writing.{after, put};
+ghost use Rattle.ft_tree.specs.meaning.Expression.{expr_pieces};
+ghost use Rattle.ft_tree.specs.meaning.Line.{Piece, token};
+ghost use Rattle.ft_tree.specs.meaning.Lines.{bound_pieces, kind_pieces, listed, plain_text, range_pieces, sign_pieces, word_pieces};
+ghost use Rattle.ft_tree.specs.writing.Writer.{after, put};
 
 use crate::expr::Expr;
 use crate::expression::{truth, write_expr};

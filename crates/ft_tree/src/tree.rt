@@ -1,4 +1,4 @@
-ghost use Rattle.ft_tree.specs.Limits.{IsSet};
+ghost use Rattle.ft_tree.specs.meaning.Limits.{IsSet};
 
 use crate::item::{Item, Number};
 use ft_base::{List, Text};

@@ -1,6 +1,6 @@
 ghost use Rattle.std.specs.Prelude.{◌≡◌, OnOk, codes, decimal, true};
-ghost use Rattle.ft_tree.specs.Line.{hugs_after, hugs_before, is_history, is_open, minus, token};
-ghost use Rattle.ft_tree.specs.Writing.{closed, empty_writer, gap_of, indented, last_of, put};
+ghost use Rattle.ft_tree.specs.meaning.Line.{hugs_after, hugs_before, is_history, is_open, minus, token};
+ghost use Rattle.ft_tree.specs.writing.Writer.{closed, empty_writer, gap_of, indented, last_of, put};
 
 use ft_base::{NoMemory, Text};
 use std::alloc::Global;
@@ -26,7 +26,7 @@ pub struct Writer {
     pub last: Last,
 }
 
-#[tactic(auto, unfolding(crate::specs::Line::hugs_before))]
+#[tactic(auto, unfolding(crate::specs::meaning::Line::hugs_before))]
 fn hugs_token_before(bytes: &[u8]) -> bool
     ensures { result ≡ hugs_before (token bytes.now) }
 {
@@ -36,21 +36,21 @@ fn hugs_token_before(bytes: &[u8]) -> bool
         || bytes == b"..".as_slice()
 }
 
-#[tactic(auto, unfolding(crate::specs::Line::hugs_after))]
+#[tactic(auto, unfolding(crate::specs::meaning::Line::hugs_after))]
 fn hugs_token_after(bytes: &[u8]) -> bool
     ensures { result ≡ hugs_after (token bytes.now) }
 {
     bytes == b"(".as_slice() || bytes == b"..".as_slice()
 }
 
-#[tactic(auto, unfolding(crate::specs::Line::is_open))]
+#[tactic(auto, unfolding(crate::specs::meaning::Line::is_open))]
 fn opens(bytes: &[u8]) -> bool
     ensures { result ≡ is_open (token bytes.now) }
 {
     bytes == b"(".as_slice()
 }
 
-#[tactic(auto, unfolding(crate::specs::Line::is_history))]
+#[tactic(auto, unfolding(crate::specs::meaning::Line::is_history))]
 fn is_history_word(bytes: &[u8]) -> bool
     ensures { result ≡ is_history (token bytes.now) }
 {
@@ -84,7 +84,7 @@ impl Last {
     }
 
     // What stands before a `-` that is no operator.
-    #[tactic(auto, unfolding(crate::specs::Line::hugs_before, crate::specs::Line::is_open))]
+    #[tactic(auto, unfolding(crate::specs::meaning::Line::hugs_before, crate::specs::meaning::Line::is_open))]
     fn gap_before_minus(self) -> &'static [u8]
         ensures { result.now ≡ gap_of self minus }
     {
@@ -108,7 +108,7 @@ impl Writer {
     }
 
     /// Writes a token, after the space that it takes.
-    #[tactic(auto, unfolding(crate::specs::Writing::put))]
+    #[tactic(auto, unfolding(crate::specs::writing::Writer::put))]
     pub fn put(&mut self, bytes: &[u8]) -> Result<(), NoMemory>
         ensures { OnOk result (self.new ≡ put self.old (token bytes.now)) }
     {
@@ -119,7 +119,7 @@ impl Writer {
     }
 
     /// Writes the `-` before an operand.
-    #[tactic(auto, unfolding(crate::specs::Writing::put, crate::specs::Line::hugs_after))]
+    #[tactic(auto, unfolding(crate::specs::writing::Writer::put, crate::specs::meaning::Line::hugs_after))]
     pub fn put_minus(&mut self) -> Result<(), NoMemory>
         ensures { OnOk result (self.new ≡ put self.old minus) }
     {
@@ -138,7 +138,7 @@ impl Writer {
     }
 
     /// Begins an inner line by two spaces.
-    #[tactic(auto, unfolding(crate::specs::Writing::indented))]
+    #[tactic(auto, unfolding(crate::specs::writing::Writer::indented))]
     pub fn indent(&mut self) -> Result<(), NoMemory>
         ensures { OnOk result (self.new ≡ indented true self.old) }
     {
@@ -146,7 +146,7 @@ impl Writer {
     }
 
     /// Ends a line.
-    #[tactic(auto, unfolding(crate::specs::Writing::closed))]
+    #[tactic(auto, unfolding(crate::specs::writing::Writer::closed))]
     pub fn close(&mut self) -> Result<(), NoMemory>
         ensures { OnOk result (self.new ≡ closed self.old) }
     {

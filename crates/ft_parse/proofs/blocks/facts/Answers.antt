@@ -1,7 +1,7 @@
 use Rattle.std.proofs.Common.{rules, ◌≡◌, true, Ok}
-use Rattle.ft_parse.specs.ReadItems.{as_fact_word, fact_part_by}
-use Rattle.ft_parse.specs.Reading.{begins, can}
-use Rattle.ft_parse.specs.Steps.{one_more}
+use Rattle.ft_parse.specs.parsers.Items.{as_fact_word, fact_part_by}
+use Rattle.ft_read.specs.parsers.Combinators.{begins, can}
+use Rattle.ft_parse.specs.parsers.Steps.{one_more}
 use Rattle.ft_parse.proofs.BlockLemmas.{facts_less}
 use Rattle.ft_parse.proofs.blocks.facts.Goals as goal
 

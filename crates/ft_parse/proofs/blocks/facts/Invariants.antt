@@ -1,7 +1,8 @@
 use Rattle.std.proofs.Common.{◌≡◌, length}
-use Rattle.ft_parse.specs.ReadItems.{as_fact_word, fact_part_by}
-use Rattle.ft_parse.specs.Reading.{can, many}
-use Rattle.ft_parse.specs.Steps.{one_more}
+use Rattle.ft_parse.specs.parsers.Items.{as_fact_word, fact_part_by}
+use Rattle.ft_read.specs.parsers.Combinators.{can}
+use Rattle.ft_parse.specs.parsers.Repetition.{many}
+use Rattle.ft_parse.specs.parsers.Steps.{one_more}
 use Rattle.ft_parse.proofs.blocks.facts.Given as goal
 
 abbrev pub invariant-loop-alloc : goal.invariant-loop-alloc

@@ -1,7 +1,8 @@
 use Rattle.std.proofs.Common.{rules, ◌≡◌, true, Ok}
-use Rattle.ft_parse.specs.Levels.{inner_by, operand_by, ops_of}
-use Rattle.ft_parse.specs.Reading.{begins, can}
-use Rattle.ft_parse.specs.ReadExpressions.{right_by}
+use Rattle.ft_parse.specs.parsers.Levels.{inner_by, operand_by}
+use Rattle.ft_read.specs.parsers.Tokens.{ops_of}
+use Rattle.ft_read.specs.parsers.Combinators.{begins, can}
+use Rattle.ft_parse.specs.parsers.Expressions.{right_by}
 use Rattle.ft_parse.proofs.LevelLemmas.{chain_less, of_conjunctions, of_products, of_sums}
 use Rattle.ft_parse.proofs.expressions.+expression.Goals as goal
 

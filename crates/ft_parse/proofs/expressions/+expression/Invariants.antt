@@ -1,9 +1,11 @@
 use Rattle.std.proofs.Common.{◌≡◌, ℕ, ◌+◌, ◌*◌, length}
-use Rattle.ft_parse.specs.Levels.{inner_by, operand_by, ops_of}
-use Rattle.ft_parse.specs.Reading.{can, many}
-use Rattle.ft_parse.specs.ReadExpressions.{right_by}
-use Rattle.ft_parse.specs.declared.operators.Level.{Level}
-use Rattle.ft_parse.specs.declared.operators.Level.TheVariants.{Disjunction, Conjunction, Comparison, Sum, Product}
+use Rattle.ft_parse.specs.parsers.Levels.{inner_by, operand_by}
+use Rattle.ft_read.specs.parsers.Tokens.{ops_of}
+use Rattle.ft_read.specs.parsers.Combinators.{can}
+use Rattle.ft_parse.specs.parsers.Repetition.{many}
+use Rattle.ft_parse.specs.parsers.Expressions.{right_by}
+use Rattle.ft_read.specs.declared.operators.Level.{Level}
+use Rattle.ft_read.specs.declared.operators.Level.TheVariants.{Disjunction, Conjunction, Comparison, Sum, Product}
 use Rattle.ft_parse.proofs.expressions.+expression.Given as goal
 
 abbrev rank : Level → ℕ

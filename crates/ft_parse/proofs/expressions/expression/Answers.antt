@@ -1,5 +1,5 @@
 use Rattle.std.proofs.Common.{rules, ◌≡◌, Some}
-use Rattle.ft_parse.specs.Cursor.{head}
+use Rattle.ft_read.specs.parsers.Cursor.{head}
 use Rattle.ft_parse.proofs.LevelLemmas.{expression_some}
 use Rattle.ft_parse.proofs.expressions.expression.Goals as goal
 

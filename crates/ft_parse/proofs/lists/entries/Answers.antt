@@ -1,7 +1,7 @@
 use Rattle.std.proofs.Common.{rules, ◌≡◌, true, codes, Ok}
-use Rattle.ft_parse.specs.Lexeme.{as_sign}
-use Rattle.ft_parse.specs.ReadItems.{more_entries_by}
-use Rattle.ft_parse.specs.Reading.{begins, can}
+use Rattle.ft_read.specs.meaning.Lexeme.{as_sign}
+use Rattle.ft_parse.specs.parsers.Items.{more_entries_by}
+use Rattle.ft_read.specs.parsers.Combinators.{begins, can}
 use Rattle.ft_parse.proofs.ListLemmas.{entries_less}
 use Rattle.ft_parse.proofs.lists.entries.Goals as goal
 

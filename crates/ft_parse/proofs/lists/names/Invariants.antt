@@ -1,7 +1,8 @@
 use Rattle.std.proofs.Common.{◌≡◌, codes, length}
-use Rattle.ft_parse.specs.Lexeme.{as_sign}
-use Rattle.ft_parse.specs.ReadItems.{more_names_by}
-use Rattle.ft_parse.specs.Reading.{can, many}
+use Rattle.ft_read.specs.meaning.Lexeme.{as_sign}
+use Rattle.ft_parse.specs.parsers.Items.{more_names_by}
+use Rattle.ft_read.specs.parsers.Combinators.{can}
+use Rattle.ft_parse.specs.parsers.Repetition.{many}
 use Rattle.ft_parse.proofs.lists.names.Given as goal
 
 abbrev pub invariant-loop-alloc : goal.invariant-loop-alloc

@@ -1,6 +1,6 @@
 use Rattle.std.proofs.Common.{◌∙◌, sym, ap, subst}
-use Rattle.ft_parse.specs.Reading.{Stops}
-use Rattle.ft_parse.specs.ReadItems.{set_by}
+use Rattle.ft_read.specs.parsers.Combinators.{Stops}
+use Rattle.ft_parse.specs.parsers.Items.{set_by}
 use Rattle.ft_parse.proofs.ParsingLemmas.{ahead, read-fault, read-lawful, read-only, read-same, read-spelled, read-unless, same-unless}
 use Rattle.ft_parse.proofs.parsing.from_tokens.Goals as goal
 

@@ -1,6 +1,6 @@
 use Rattle.std.proofs.Common.{rules, ◌≡◌, true, Ok}
-use Rattle.ft_parse.specs.ReadItems.{is_item_start, more_items_by}
-use Rattle.ft_parse.specs.Reading.{begins}
+use Rattle.ft_parse.specs.parsers.Items.{is_item_start, more_items_by}
+use Rattle.ft_read.specs.parsers.Combinators.{begins}
 use Rattle.ft_parse.proofs.BlockLemmas.{items_less}
 use Rattle.ft_parse.proofs.sets.read_items.Goals as goal
 

@@ -1,6 +1,6 @@
 use Rattle.std.proofs.Common.{◌≡◌, length}
-use Rattle.ft_parse.specs.ReadItems.{is_item_start, more_items_by}
-use Rattle.ft_parse.specs.Reading.{many}
+use Rattle.ft_parse.specs.parsers.Items.{is_item_start, more_items_by}
+use Rattle.ft_parse.specs.parsers.Repetition.{many}
 use Rattle.ft_parse.proofs.sets.read_items.Given as goal
 
 abbrev pub invariant-loop-alloc : goal.invariant-loop-alloc

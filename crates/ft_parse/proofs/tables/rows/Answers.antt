@@ -1,8 +1,8 @@
 use Rattle.std.proofs.Common.{rules, ◌≡◌, true, codes, Ok}
-use Rattle.ft_parse.specs.Lexeme.{as_word}
-use Rattle.ft_parse.specs.ReadItems.{row_by}
-use Rattle.ft_parse.specs.Reading.{begins, can}
-use Rattle.ft_parse.specs.Steps.{one_more}
+use Rattle.ft_read.specs.meaning.Lexeme.{as_word}
+use Rattle.ft_parse.specs.parsers.Items.{row_by}
+use Rattle.ft_read.specs.parsers.Combinators.{begins, can}
+use Rattle.ft_parse.specs.parsers.Steps.{one_more}
 use Rattle.ft_parse.proofs.TableLemmas.{rows_less}
 use Rattle.ft_parse.proofs.tables.rows.Goals as goal
 

@@ -1,8 +1,8 @@
 use Rattle.std.proofs.Common.{rules, ◌≡◌, true, codes, Ok}
-use Rattle.ft_parse.specs.Lexeme.{as_word}
-use Rattle.ft_parse.specs.ReadItems.{vrow_by}
-use Rattle.ft_parse.specs.Reading.{begins, can}
-use Rattle.ft_parse.specs.Steps.{one_more}
+use Rattle.ft_read.specs.meaning.Lexeme.{as_word}
+use Rattle.ft_parse.specs.parsers.Items.{vrow_by}
+use Rattle.ft_read.specs.parsers.Combinators.{begins, can}
+use Rattle.ft_parse.specs.parsers.Steps.{one_more}
 use Rattle.ft_parse.proofs.TableLemmas.{vrows_less}
 use Rattle.ft_parse.proofs.tables.vector_rows.Goals as goal
 

@@ -1,8 +1,9 @@
 use Rattle.std.proofs.Common.{◌≡◌, codes, length}
-use Rattle.ft_parse.specs.Lexeme.{as_word}
-use Rattle.ft_parse.specs.ReadItems.{vrow_by}
-use Rattle.ft_parse.specs.Reading.{can, many}
-use Rattle.ft_parse.specs.Steps.{one_more}
+use Rattle.ft_read.specs.meaning.Lexeme.{as_word}
+use Rattle.ft_parse.specs.parsers.Items.{vrow_by}
+use Rattle.ft_read.specs.parsers.Combinators.{can}
+use Rattle.ft_parse.specs.parsers.Repetition.{many}
+use Rattle.ft_parse.specs.parsers.Steps.{one_more}
 use Rattle.ft_parse.proofs.tables.vector_rows.Given as goal
 
 abbrev pub invariant-loop-alloc : goal.invariant-loop-alloc

@@ -1,4 +1,4 @@
-use Rattle.ft_tree.specs.Lines.{item_lines}
+use Rattle.ft_tree.specs.meaning.Lines.{item_lines}
 use Rattle.ft_tree.proofs.WritingLemmas.{groups-more}
 use Rattle.ft_tree.proofs.canonical.write_items.Goals as goal
 

@@ -1,7 +1,7 @@
 use Rattle.std.proofs.Common.{◌≡◌, take}
 use Rattle.std.specs.List.{flat_map}
-use Rattle.ft_tree.specs.Lines.{item_lines}
-use Rattle.ft_tree.specs.Writing.{with_lines}
+use Rattle.ft_tree.specs.meaning.Lines.{item_lines}
+use Rattle.ft_tree.specs.writing.Writer.{with_lines}
 use Rattle.ft_tree.proofs.canonical.write_items.Given as goal
 
 -- the items before this one are written

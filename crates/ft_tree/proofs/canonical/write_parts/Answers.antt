@@ -1,8 +1,8 @@
 use Rattle.std.proofs.Common.{◌∙◌, ap, ◌++◌}
 use Rattle.ft_tree.specs.declared.writer.Writer.{Writer}
 use Rattle.std.specs.List.{flat_map}
-use Rattle.ft_tree.specs.Line.{line_bytes}
-use Rattle.ft_tree.specs.Lines.{set_lines}
+use Rattle.ft_tree.specs.meaning.Line.{line_bytes}
+use Rattle.ft_tree.specs.meaning.Lines.{set_lines}
 use Rattle.ft_tree.proofs.WritingLemmas.{lines-five}
 use Rattle.ft_tree.proofs.LayoutLemmas.{lines-text}
 use Rattle.ft_tree.proofs.canonical.write_parts.Goals as goal

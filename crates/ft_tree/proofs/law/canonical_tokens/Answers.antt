@@ -1,8 +1,8 @@
 use Rattle.std.proofs.Common.{map}
 use Rattle.std.specs.List.{flat_map}
-use Rattle.ft_tree.specs.Line.{Line, line_bytes}
-use Rattle.ft_tree.specs.Canonical.{tree_lines}
-use Rattle.ft_tree.specs.Tokens.{piece_shape}
+use Rattle.ft_tree.specs.meaning.Line.{Line, line_bytes}
+use Rattle.ft_tree.specs.meaning.Canonical.{tree_lines}
+use Rattle.ft_tree.specs.laws.Tokens.{piece_shape}
 use Rattle.ft_tree.proofs.LineLemmas.{made-lines}
 use Rattle.ft_tree.proofs.MadeLemmas.{read-made}
 use Rattle.ft_tree.proofs.TreeLemmas.{set-sound}

@@ -1,5 +1,5 @@
 use Rattle.std.proofs.Common.{◌≡◌, take, map}
-use Rattle.ft_tree.specs.Writing.{with_lines}
+use Rattle.ft_tree.specs.writing.Writer.{with_lines}
 use Rattle.ft_tree.proofs.lines.write_lines.Given as goal
 
 -- the lines before this one are written

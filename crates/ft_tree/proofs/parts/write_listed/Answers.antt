@@ -1,5 +1,5 @@
 use Rattle.std.proofs.Common.{codes}
-use Rattle.ft_tree.specs.Line.{token}
+use Rattle.ft_tree.specs.meaning.Line.{token}
 use Rattle.ft_tree.proofs.WritingLemmas.{parts-all, parts-more}
 use Rattle.ft_tree.proofs.parts.write_listed.Goals as goal
 

@@ -1,7 +1,7 @@
 use Rattle.std.proofs.Common.{◌≡◌, ◌∷◌, codes, take}
 use Rattle.std.specs.List.{flat_map}
-use Rattle.ft_tree.specs.Line.{token}
-use Rattle.ft_tree.specs.Writing.{after}
+use Rattle.ft_tree.specs.meaning.Line.{token}
+use Rattle.ft_tree.specs.writing.Writer.{after}
 use Rattle.ft_tree.proofs.parts.write_listed.Given as goal
 
 -- the parts before this one are written, each after a comma

@@ -1,9 +1,9 @@
 use Rattle.std.proofs.Common.{◌≡◌, ◌∙◌, sym, ap, List, [], ◌∷◌, ◌++◌, codes, map}
 use Rattle.std.proofs.lemmas.Result.{on_ok_weaker}
 use Rattle.ft_tree.specs.declared.writer.Writer.{Writer}
-use Rattle.ft_tree.specs.Line.{Line}
-use Rattle.ft_tree.specs.Lines.{brace_line, exprs_line, head_line, vector_head, vrow_line}
-use Rattle.ft_tree.specs.Writing.{with_lines}
+use Rattle.ft_tree.specs.meaning.Line.{Line}
+use Rattle.ft_tree.specs.meaning.Lines.{brace_line, exprs_line, head_line, vector_head, vrow_line}
+use Rattle.ft_tree.specs.writing.Writer.{with_lines}
 use Rattle.ft_tree.proofs.WritingLemmas.{lines-cons}
 use Rattle.ft_tree.proofs.tables.write_vector.Goals as goal
 

@@ -1,6 +1,6 @@
 use Rattle.std.proofs.Common.{rules, ◌≡◌, arith}
-use Rattle.ft_tree.specs.Limits as limits
-use Rattle.ft_parse.specs.Counts.{count_of, up_to_most}
+use Rattle.ft_tree.specs.meaning.Limits as limits
+use Rattle.ft_parse.specs.parsers.Counts.{count_of, up_to_most}
 use Rattle.ft_parse.proofs.CountLemmas.{full}
 use Rattle.ft_parse.proofs.counts.Items.is_full.Goals as goal
 

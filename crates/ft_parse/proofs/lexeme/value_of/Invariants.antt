@@ -1,9 +1,0 @@
-use Rattle.std.proofs.Common.{◌≡◌, ◌≤◌, take}
-use Rattle.ft_base.specs.Digits.{decimal_value}
-use Rattle.ft_parse.proofs.lexeme.value_of.Given as goal
-
-abbrev pub invariant-loop-digit : goal.invariant-loop-digit
-invariant-loop-digit l = record {
-  so_far : l.value ≡ decimal_value (take l.digit-index l.digits);
-  small : l.value ≤ 10000000255;
-}

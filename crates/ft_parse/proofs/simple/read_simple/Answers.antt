@@ -1,8 +1,0 @@
-use Rattle.ft_parse.specs.Expressions.{as_simple}
-use Rattle.ft_parse.proofs.CursorLemmas.{within_read}
-use Rattle.ft_parse.proofs.simple.read_simple.Goals as goal
-
-pub returns : goal.returns
-returns c =
-    rw (← within_read as_simple c.args.entry c.in_ok-read.read c.args.cursor.now.at c.args.cursor.now.rest c.in_ok-read.ensures)
-    c.accept.ensures

@@ -1,0 +1,4 @@
+pub mod BoundLemmas
+pub mod CursorLemmas
+pub mod LexemeLemmas
+pub mod SimpleLemmas
