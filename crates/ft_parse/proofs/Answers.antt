@@ -5,7 +5,7 @@ use Rattle.ft_read.specs.meaning.Lexeme.{Lexeme, lexemes_of}
 use Rattle.ft_parse.specs.meaning.Language.{Plain, Step, lexemes, step}
 use Rattle.ft_parse.specs.meaning.Items.{set}
 use Rattle.ft_parse.specs.meaning.Parse.{GoesOn}
-use Rattle.ft_read.specs.parsers.Combinators.{Outcome, Seen, seen}
+use Rattle.ft_read.specs.parsers.Combinators.{Outcome, ParserState, state}
 use Rattle.ft_parse.specs.parsers.Items.{set_by}
 use Rattle.ft_parse.specs.declared.parts.Parts.{Parts}
 use Rattle.ft_read.specs.declared.stop.Pass.{Pass}
@@ -15,11 +15,13 @@ use Rattle.ft_lex.specs.declared.token.Token.{Token}
 use Rattle.ft_lex.specs.Tokens.{AreTokensFrom, IsTokens, is_last}
 use Rattle.ft_parse.proofs.InnerTokens.{AllInner, set-ends}
 use Rattle.ft_parse.proofs.ItemRules.{rule-set}
-use Rattle.ft_parse.proofs.Told.{Told, first, two-parts}
+use Rattle.ft_parse.proofs.Faithful.{Faithful, two-parts}
 use Rattle.ft_parse.proofs.Whole.{expected, never-begins}
+use Rattle.ft_read.specs.parsers.Cursor.{head}
 
 -- a text that passes no limit is read as it is
-pub plain-expected : (at : ℕ) (steps : List Step) (parts : Parts) (rest : List Lexeme) → Plain steps → (left : ℕ) × (expected at steps parts rest ≡ (Ok parts, seen left rest))
+pub plain-expected : (at : ℕ) (steps : List Step) (parts : Parts) (rest : List Lexeme) → Plain steps
+    → (left : ℕ) × (expected at steps parts rest ≡ (Ok parts, state left rest))
 plain-expected at [] parts rest plain = (at, refl)
 plain-expected at (s ∷ more) parts rest (none, plain) =
     let (left, e) = plain-expected (suc at) more parts rest plain in
@@ -45,7 +47,7 @@ sorted (s ∷ more) = by-pass s more s.pass refl (sorted more) where
 
 -- where the first token that passes a limit stands
 pub first-expected : (at : ℕ) (front : List Step) (late : Lexeme) (pass : Pass) (after : List Step) (parts : Parts) (rest : List Lexeme) → Plain front
-    → (left : ℕ) × (expected at (front ++ step late (Some pass) ∷ after) parts rest ≡ (Err (Limit pass), seen left (late ∷ (lexemes after ++ rest))))
+    → (left : ℕ) × (expected at (front ++ step late (Some pass) ∷ after) parts rest ≡ (Err (Limit pass), state left (late ∷ (lexemes after ++ rest))))
 first-expected at [] late pass after parts rest plain = (at, refl)
 first-expected at (s ∷ front) late pass after parts rest (none, plain) =
     let (left, e) = first-expected (suc at) front late pass after parts rest plain in
@@ -98,11 +100,12 @@ Says ls (Err (Limit pass), left) = (late : Lexeme) × (rest : List Lexeme) × (f
 Says ls (Err NoMemory, left) = ⊥
 
 -- a text of a set is read as far as it passes no limit
-reads : (steps : List Step) (parts : Parts) → set 0 steps parts → set_by (seen 0 (lexemes steps)) ≡ expected 0 steps parts []
+reads : (steps : List Step) (parts : Parts) → set 0 steps parts → set_by (state 0 (lexemes steps)) ≡ expected 0 steps parts []
 reads steps parts h =
-    ap (λ (ls : List Lexeme). set_by (seen 0 ls)) (sym (append-nil (lexemes steps))) ∙ rule-set.whole 0 steps parts [] h (never-begins [])
+    ap (λ (ls : List Lexeme). set_by (state 0 ls)) (sym (append-nil (lexemes steps))) ∙ rule-set.whole 0 steps parts [] h (never-begins [])
 
-ok-says : (ls : List Lexeme) → Closed ls → (parts : Parts) (left : Seen) → Told set set_by (seen 0 ls) (Ok parts, left) → Says ls (Ok parts, left)
+ok-says : (ls : List Lexeme) → Closed ls → (parts : Parts) (left : ParserState) → Faithful set set_by (state 0 ls) (Ok parts, left)
+    → Says ls (Ok parts, left)
 ok-says ls closed parts left g =
     let (front, last, split, inner, e) = set-ends.all 0 g.steps parts g.means in
     let whole : ls ≡ lexemes front ++ last.lexeme ∷ left.rest =
@@ -110,11 +113,12 @@ ok-says ls closed parts left g =
     let none : left.rest ≡ [] = only-last (lexemes front) last.lexeme left.rest (rw whole at closed) e in
     (g.steps, sym (g.is ∙ ap (λ (us : List Lexeme). lexemes g.steps ++ us) none ∙ append-nil (lexemes g.steps)), g.plain, g.means)
 
-apart-answers : (o : Outcome Parts) (parts : Parts) (x y : Seen) → o ≡ (Err Syntax, x) → o ≡ (Ok parts, y) → ⊥
+apart-answers : (o : Outcome Parts) (parts : Parts) (x y : ParserState) → o ≡ (Err Syntax, x) → o ≡ (Ok parts, y) → ⊥
 apart-answers o parts x y e f = let first_parts = ap (λ (q : Outcome Parts). q.0) (sym e ∙ f) in cc first_parts
 
 -- where all is taken the text is whole
-all-taken : (ls : List Lexeme) → Closed ls → (left : Seen) → Told set set_by (seen 0 ls) (Err Syntax, left) → left.rest ≡ [] → ⊥
+all-taken : (ls : List Lexeme) → Closed ls → (left : ParserState) → Faithful set set_by (state 0 ls) (Err Syntax, left) → left.rest ≡ []
+    → ⊥
 all-taken ls closed left g none =
     let (more, parts, h) = g.begins in
     let (front, last, split, inner, e) = set-ends.all 0 (g.steps ++ more) parts h in
@@ -123,29 +127,31 @@ all-taken ls closed left g none =
       | inl empty ↦
           (let same : g.steps ++ more ≡ g.steps = ap (λ (us : List Step). g.steps ++ us) empty ∙ append-nil g.steps in
           let (at, ok) = plain-expected 0 g.steps parts [] g.plain in
-          let stopped : set_by (seen 0 (lexemes g.steps ++ [])) ≡ (Err Syntax, seen left.at []) = g.again [] (sym (ap first none)) in
-          apart-answers _ parts (seen left.at []) (seen at []) (ap (λ (us : List Lexeme). set_by (seen 0 us)) (sym (append-nil (lexemes g.steps))) ∙ stopped) (reads g.steps parts (rw same at h) ∙ ok))
+          let stopped : set_by (state 0 (lexemes g.steps ++ [])) ≡ (Err Syntax, state left.at []) = g.again [] (sym (ap head none)) in
+          apart-answers _ parts (state left.at []) (state at []) (ap (λ (us : List Lexeme). set_by (state 0 us)) (sym (append-nil (lexemes g.steps))) ∙ stopped) (reads g.steps parts (rw same at h) ∙ ok))
       | inr all ↦ not-inner g.steps all (rw whole at closed)
     ]
 
 -- what a text that begins so is read as, against what was answered
 module _ (steps : List Step) (parts : Parts) (h : set 0 steps parts) (ls : List Lexeme) (same : lexemes steps ≡ ls) where
-  read-so : set_by (seen 0 ls) ≡ expected 0 steps parts []
+  read-so : set_by (state 0 ls) ≡ expected 0 steps parts []
   read-so = rw same at (reads steps parts h)
 
-  no-syntax : (left : Seen) → set_by (seen 0 ls) ≡ (Err Syntax, left) → ⊥
+  no-syntax : (left : ParserState) → set_by (state 0 ls) ≡ (Err Syntax, left) → ⊥
   no-syntax left e = elim (sorted steps) [
-    | inl plain ↦ (let (at, ok) = plain-expected 0 steps parts [] plain in apart-answers _ parts left (seen at []) e (read-so ∙ ok))
+    | inl plain ↦ (let (at, ok) = plain-expected 0 steps parts [] plain in apart-answers _ parts left (state at []) e (read-so ∙ ok))
     | inr f ↦ limited f.0 f.1
   ] where
     limited : (pass : Pass) → FirstPass steps pass → ⊥
     limited pass f =
         let (at, late) = first-expected 0 f.front f.late pass f.after parts [] f.plain in
-        let read : set_by (seen 0 ls) ≡ (Err (Limit pass), seen at (f.late ∷ (lexemes f.after ++ []))) = read-so ∙ ap (λ (us : List Step). expected 0 us parts []) f.is ∙ late in
+        let read : set_by (state 0 ls) ≡ (Err (Limit pass), state at (f.late ∷ (lexemes f.after ++ []))) = read-so
+        ∙ ap (λ (us : List Step). expected 0 us parts []) f.is ∙ late in
         let answers = ap (λ (q : Outcome Parts). q.0) (sym e ∙ read) in
         cc answers
 
-  one-limit : (front : List Lexeme) (late : Lexeme) (others : List Lexeme) (pass : Pass) (at : ℕ) → ls ≡ front ++ late ∷ others → set_by (seen 0 ls) ≡ (Err (Limit pass), seen at (late ∷ others))
+  one-limit : (front : List Lexeme) (late : Lexeme) (others : List Lexeme) (pass : Pass) (at : ℕ) → ls ≡ front ++ late ∷ others
+      → set_by (state 0 ls) ≡ (Err (Limit pass), state at (late ∷ others))
       → (b a : List Step) × Plain b × (lexemes b ≡ front) × (steps ≡ b ++ step late (Some pass) ∷ a)
   one-limit front late others pass at is e = elim (sorted steps) [
     | inl plain ↦ (let (left, ok) = plain-expected 0 steps parts [] plain in let answers = ap (λ (q : Outcome Parts). q.0) (sym e ∙ read-so ∙ ok) in absurd (cc answers))
@@ -154,7 +160,8 @@ module _ (steps : List Step) (parts : Parts) (h : set 0 steps parts) (ls : List 
     limited : (other : Pass) → FirstPass steps other → (b a : List Step) × Plain b × (lexemes b ≡ front) × (steps ≡ b ++ step late (Some pass) ∷ a)
     limited other f =
         let (left, reached) = first-expected 0 f.front f.late other f.after parts [] f.plain in
-        let read : set_by (seen 0 ls) ≡ (Err (Limit other), seen left (f.late ∷ (lexemes f.after ++ []))) = read-so ∙ ap (λ (us : List Step). expected 0 us parts []) f.is ∙ reached in
+        let read : set_by (state 0 ls) ≡ (Err (Limit other), state left (f.late ∷ (lexemes f.after ++ []))) = read-so
+        ∙ ap (λ (us : List Step). expected 0 us parts []) f.is ∙ reached in
         let answers = ap (λ (q : Outcome Parts). q.0) (sym e ∙ read) in
         let lefts = ap (λ (q : Outcome Parts). q.1.rest) (sym e ∙ read) in
         let same_pass : other ≡ pass = cc answers in
@@ -165,7 +172,7 @@ module _ (steps : List Step) (parts : Parts) (h : set 0 steps parts) (ls : List 
         let fronts : lexemes f.front ≡ front = append_cancel_right (lexemes f.front) front (late ∷ others) ((λ i. lexemes f.front ++ (sym same_late) i ∷ (sym same_rest) i) ∙ whole) in
         (f.front, f.after, f.plain, fronts, f.is ∙ (λ i. f.front ++ step (same_late i) (Some (same_pass i)) ∷ f.after))
 
-answer-says : (ls : List Lexeme) → Closed ls → (o : Outcome Parts) → Told set set_by (seen 0 ls) o → Says ls o
+answer-says : (ls : List Lexeme) → Closed ls → (o : Outcome Parts) → Faithful set set_by (state 0 ls) o → Says ls o
 answer-says ls closed (Ok parts, left) g = ok-says ls closed parts left g
 answer-says ls closed (Err Syntax, left) g = by-rest left.rest refl where
   by-rest : (us : List Lexeme) → left.rest ≡ us → Says ls (Err Syntax, left)
@@ -178,7 +185,7 @@ answer-says ls closed (Err Syntax, left) g = by-rest left.rest refl where
         lexemes g.steps,
         g.is ∙ ap (λ (us : List Lexeme). lexemes g.steps ++ us) e,
         (g.steps, more, parts, refl, g.plain, h),
-        λ steps others others_parts same k. no-syntax steps others_parts k (lexemes g.steps ++ bad ∷ others) same (seen left.at (bad ∷ others)) (g.again (bad ∷ others) (sym (ap first e))),
+        λ steps others others_parts same k. no-syntax steps others_parts k (lexemes g.steps ++ bad ∷ others) same (state left.at (bad ∷ others)) (g.again (bad ∷ others) (sym (ap head e))),
       )
 answer-says ls closed (Err (Limit pass), left) g =
     let (more, parts, h) = g.begins in (
@@ -193,11 +200,12 @@ answer-says ls closed (Err (Limit pass), left) g =
 answer-says ls closed (Err NoMemory, left) g = g
 
 -- what reading closed lexemes answers
-pub says : (ls : List Lexeme) → Closed ls → Says ls (set_by (seen 0 ls))
-says ls closed = answer-says ls closed (set_by (seen 0 ls)) (rule-set.told (seen 0 ls))
+pub says : (ls : List Lexeme) → Closed ls → Says ls (set_by (state 0 ls))
+says ls closed = answer-says ls closed (set_by (state 0 ls)) (rule-set.faithful (state 0 ls))
 
 -- what is spelled within the limits is read
-pub only : (steps : List Step) (parts : Parts) → set 0 steps parts → Plain steps → (at : ℕ) × (set_by (seen 0 (lexemes steps)) ≡ (Ok parts, seen at []))
+pub only : (steps : List Step) (parts : Parts) → set 0 steps parts → Plain steps
+    → (at : ℕ) × (set_by (state 0 (lexemes steps)) ≡ (Ok parts, state at []))
 only steps parts h plain =
     let (at, ok) = plain-expected 0 steps parts [] plain in
     (at, reads steps parts h ∙ ok)

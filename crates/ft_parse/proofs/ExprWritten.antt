@@ -26,8 +26,8 @@ use Rattle.ft_tree.specs.laws.ExprParts.{expr_induction, lawful-Num, lawful-Name
 use Rattle.ft_tree.specs.laws.ExprParts.{lawful-Two, spelled-Num, spelled-Name, spelled-Truth, spelled-Prev, spelled-Age, spelled-Not}
 use Rattle.ft_tree.specs.laws.ExprParts.{spelled-Neg, spelled-Two}
 use Rattle.ft_read.specs.meaning.Lexeme.{Lexeme, as_name, as_sign, as_word}
-use Rattle.ft_parse.specs.meaning.Language.{Language, Step, either, lexemes, nothing, token}
-use Rattle.ft_read.specs.meaning.Limit.{opening, own_pass, within}
+use Rattle.ft_parse.specs.meaning.Language.{Language, Step, alternative, lexemes, nothing, token}
+use Rattle.ft_read.specs.meaning.Limit.{opening, lexical_pass, within}
 use Rattle.ft_parse.specs.meaning.Expressions.{Nest, atom, chain, comparison, conjunction, disjunction, expression, group, history}
 use Rattle.ft_parse.specs.meaning.Expressions.{negation, negated, prefixed, product, right_of, signed, sum, unary, whole}
 use Rattle.ft_read.specs.meaning.Operators.{as_and, as_or, as_product, as_relation, as_simple, as_sum, two}
@@ -35,8 +35,8 @@ use Rattle.ft_parse.specs.meaning.Expressions
 use Rattle.ft_tree.specs.meaning.Bare.{bare_expr, start}
 use Rattle.ft_read.specs.declared.parts.Entry.{Entry}
 use Rattle.ft_read.specs.declared.parts.Operator.{Operator}
-use Rattle.ft_parse.proofs.Lifts.{after, after-is, chain-more, lift, part_at}
-use Rattle.ft_parse.proofs.Marks.{mark, name-kind, name-own, number-kind, number-own, reads-sign, reads-word, value-back}
+use Rattle.ft_parse.proofs.Loosening.{tighter_by, tighter_by-is, chain-more, loosen, part_at}
+use Rattle.ft_parse.proofs.Marks.{mark, name-kind, name-lexical, number-kind, number-lexical, reads-sign, reads-word, value-back}
 use Rattle.ft_parse.proofs.SameLemmas.{bare-Num, bare-Name, bare-Truth, bare-Prev, bare-Age, bare-Not, bare-Neg, bare-Two, nested-Num}
 use Rattle.ft_parse.proofs.SameLemmas.{nested-Name, nested-Truth, nested-Prev, nested-Age, nested-Not, nested-Neg, nested-Two}
 use Rattle.ft_parse.proofs.Writes.{Spelt, Writes, head_or, left, lexeme_at, made, next, none, right, shape, shaped, shapes, and_then}
@@ -85,19 +85,19 @@ op-kind-is Sub = refl
 op-kind-is Mul = refl
 op-kind-is Div = refl
 
-op-own : (op : Op) (place : Place) → own_pass (lexeme_at (op-kind op, op_sign op) place) ≡ None
-op-own Or place = refl
-op-own And place = refl
-op-own Eq place = refl
-op-own Ne place = refl
-op-own Lt place = refl
-op-own Le place = refl
-op-own Gt place = refl
-op-own Ge place = refl
-op-own Add place = refl
-op-own Sub place = refl
-op-own Mul place = refl
-op-own Div place = refl
+op-lexical : (op : Op) (place : Place) → lexical_pass (lexeme_at (op-kind op, op_sign op) place) ≡ None
+op-lexical Or place = refl
+op-lexical And place = refl
+op-lexical Eq place = refl
+op-lexical Ne place = refl
+op-lexical Lt place = refl
+op-lexical Le place = refl
+op-lexical Gt place = refl
+op-lexical Ge place = refl
+op-lexical Add place = refl
+op-lexical Sub place = refl
+op-lexical Mul place = refl
+op-lexical Div place = refl
 
 -- the operators of each level
 abbrev ops_at : Level → Lexeme → Option Operator
@@ -204,15 +204,15 @@ module _ (entry : Entry) (beyond : entry.is_beyond ≡ false) where
   unfolding Fits
   fits-front at xs ys h = omega (arith, length-append xs ys)
 
-  no-within : (at : ℕ) (l : Lexeme) → own_pass l ≡ None → at < entry.before + 1000 → within entry at l ≡ None
-  no-within at l own early = rw (own, beyond, lt-leb (entry.before + 1000) at early) refl
+  no-within : (at : ℕ) (l : Lexeme) → lexical_pass l ≡ None → at < entry.before + 1000 → within entry at l ≡ None
+  no-within at l lexical early = rw (lexical, beyond, lt-leb (entry.before + 1000) at early) refl
 
-  no-opening : (at room : ℕ) (l : Lexeme) → own_pass l ≡ None → at < entry.before + 1000 → 0 < room
+  no-opening : (at room : ℕ) (l : Lexeme) → lexical_pass l ≡ None → at < entry.before + 1000 → 0 < room
       → opening entry room at l ≡ None
-  no-opening at zero l own early some = absurd (omega arith)
-  no-opening at (suc room) l own early some =
+  no-opening at zero l lexical early some = absurd (omega arith)
+  no-opening at (suc room) l lexical early some =
       let free : nat_eq (suc room) 0 ≡ false = grind (arith, nat_tests) in
-      rw (no-within at l own early, free) refl
+      rw (no-within at l lexical early, free) refl
 
   -- what may stand within, and the part of a rank
   abbrev inside : (n room : ℕ) → Nest → Language Expr
@@ -223,7 +223,7 @@ module _ (entry : Entry) (beyond : entry.is_beyond ≡ false) where
 
   abbrev rest_of_atom : (n room : ℕ) → Language Expr
   rest_of_atom n room =
-      either (history entry room (codes "prev") expr.Prev) (either (history entry room (codes "age") expr.Age)
+      alternative (history entry room (codes "prev") expr.Prev) (alternative (history entry room (codes "age") expr.Age)
       (group entry (inside n room) room))
 
   word-mark : (w : List ℕ) → kind_of w ≡ kind.Word → (at : ℕ) → at < entry.before + 1000
@@ -257,7 +257,7 @@ module _ (entry : Entry) (beyond : entry.is_beyond ≡ false) where
         record { text = name; place = place },
         refl,
         no-within at (lexeme_at (kind.Name, name) place)
-            (name-own name h place) early,
+            (name-lexical name h place) early,
         refl,
       ))
 
@@ -305,7 +305,7 @@ module _ (entry : Entry) (beyond : entry.is_beyond ≡ false) where
       left (rest_of_atom n room) (mark (decimal value) kind.Number (number-kind value h) (λ p. (
         expr.Num value p,
         ap (λ (x : ℕ). Some (expr.Num x p)) (value-back value h),
-        no-within at (lexeme_at (kind.Number, decimal value) p) (number-own value h p) (omega arith),
+        no-within at (lexeme_at (kind.Number, decimal value) p) (number-lexical value h p) (omega arith),
         bare-Num value p ∙ sym (bare-Num value place),
       ))))
 
@@ -317,7 +317,7 @@ module _ (entry : Entry) (beyond : entry.is_beyond ≡ false) where
       left (rest_of_atom n room) (mark name kind.Name (name-kind name h) (λ p. (
         expr.Name name p,
         refl,
-        no-within at (lexeme_at (kind.Name, name) p) (name-own name h p) (omega arith),
+        no-within at (lexeme_at (kind.Name, name) p) (name-lexical name h p) (omega arith),
         bare-Name name p ∙ sym (bare-Name name place),
       ))))
 
@@ -337,7 +337,7 @@ module _ (entry : Entry) (beyond : entry.is_beyond ≡ false) where
   prev-written name place lawful =
       as-forms _ _ _ (spelled-Prev name place) (nested-Prev name place) (λ n room at deep enough fits.
       right (token as_simple (within entry))
-      (left (either (history entry room (codes "age") expr.Age) (group entry (inside n room) room))
+      (left (alternative (history entry room (codes "age") expr.Age) (group entry (inside n room) room))
       (history-written (codes "prev") name expr.Prev (expr.Prev name place) prev-kind (sym (lawful-Prev name place) ∙ lawful)
       (λ p. bare-Prev name p ∙ sym (bare-Prev name place)) room at (omega arith) fits)))
 
@@ -352,8 +352,8 @@ module _ (entry : Entry) (beyond : entry.is_beyond ≡ false) where
 
   tight-within : (n room r s : ℕ) → s ≤ r → Within (part n room r) (part n room s)
   tight-within n room r s h =
-      let same : after (r - s) s ≡ r = after-is (r - s) s ∙ omega arith in
-      subst (λ (k : ℕ). Within (part n room k) (part n room s)) same (lift entry (inside n room) room (r - s) s)
+      let same : tighter_by (r - s) s ≡ r = tighter_by-is (r - s) s ∙ omega arith in
+      subst (λ (k : ℕ). Within (part n room k) (part n room s)) same (loosen entry (inside n room) room (r - s) s)
 
   -- what stands within an opened construct, where one less may open
   within-whole : (m room : ℕ) → Within (part m (room - 1) 0) (inside (suc m) room whole)
@@ -456,7 +456,7 @@ module _ (entry : Entry) (beyond : entry.is_beyond ≡ false) where
         record { op = op; place = p },
         reads p,
         no-within at (lexeme_at (op-kind op, op_sign op) p)
-            (op-own op p) early,
+            (op-lexical op p) early,
         refl,
       )))
       (λ o is. made {G = Same e} (two o l) written (λ a same. bare-Two o.op l a o.place

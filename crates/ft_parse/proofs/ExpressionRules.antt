@@ -9,12 +9,12 @@ use Rattle.ft_tree.specs.declared.expr.Op.TheVariants.{Or, And, Eq, Ne, Lt, Le, 
 use Rattle.ft_tree.specs.declared.expr.Expr.{Expr}
 use Rattle.ft_tree.specs.declared.expr.Expr.TheVariants as expr
 use Rattle.ft_read.specs.meaning.Lexeme.{Lexeme, as_name, as_sign, as_word}
-use Rattle.ft_parse.specs.meaning.Language.{Language, either, nothing, repeated, token, ◌▷◌}
+use Rattle.ft_parse.specs.meaning.Language.{Language, alternative, nothing, repeated, token, ◌▷◌}
 use Rattle.ft_read.specs.meaning.Limit.{Passes, opening, within}
 use Rattle.ft_parse.specs.meaning.Expressions.{Nest, atom, chain, comparison, conjunction, disjunction, group, history, negated, negation}
 use Rattle.ft_parse.specs.meaning.Expressions.{prefixed, product, right_of, signed, sum, unary}
 use Rattle.ft_read.specs.meaning.Operators.{as_and, as_or, as_product, as_relation, as_simple, as_sum, operator, two}
-use Rattle.ft_read.specs.parsers.Combinators.{Parser, can, either_by, give, is_some, read_token, ◌▶◌}
+use Rattle.ft_read.specs.parsers.Combinators.{Parser, can, alternative_by, give, is_some, read_token, ◌▶◌}
 use Rattle.ft_parse.specs.parsers.Repetition.{many}
 use Rattle.ft_parse.specs.parsers.Expressions.{atom_by, chain_by, comparison_by, conjunction_by, disjunction_by, group_by, history_by}
 use Rattle.ft_parse.specs.parsers.Expressions.{negation_by, prefixed_by, product_by, right_by, sum_by, unary_by}
@@ -23,9 +23,9 @@ use Rattle.ft_read.specs.declared.parts.Operator.{Operator}
 use Rattle.ft_parse.proofs.Forms.{Form, all_differ, any, apart, apart-under, Looks, itself-bytes, looks-map, looks-name, looks-number}
 use Rattle.ft_parse.proofs.Forms.{looks-or, looks-sign, looks-word, sign, some_name, some_number, under-both, word}
 use Rattle.ft_parse.proofs.Many.{Heads}
-use Rattle.ft_parse.proofs.Rule.{Rule, next, heads-either, heads-then, heads-token, heads-weaker, rule-either, rule-give, rule-many}
+use Rattle.ft_parse.proofs.Rule.{Rule, next, heads-alternative, heads-then, heads-token, heads-weaker, rule-alternative, rule-give, rule-many}
 use Rattle.ft_parse.proofs.Rule.{rule-next, rule-then, rule-token, rule-weaker}
-use Rattle.ft_parse.proofs.Whole.{Apart, Under, calms-by-heads, calms-either, calms-many, calms-nothing, never}
+use Rattle.ft_parse.proofs.Whole.{Apart, Under, calms-by-heads, calms-alternative, calms-many, calms-nothing, never}
 
 -- some place, for the texts that show that a part has one
 abbrev pub here : Place
@@ -66,8 +66,8 @@ pub rule-map : {A B : Type 0} (L : Language A) (p : Parser A) (h : A → B) (mor
 rule-map L p h more r =
     rule-then L (λ a. nothing (h a)) p (λ a. give (h a)) more more (λ a. calms-nothing (h a) more more (under-same more)) r (λ a. rule-done (h a) more)
 
-module _ (entry : Entry) (ops : Lexeme → Option Operator) (operand : Language Expr) (operand_by : Parser Expr) (own inner : List Form) (l : Lexeme) (o : Operator)
-    (reads : ops l ≡ Some o) (under : Under (can ops) (any own)) (differ : all_differ own inner ≡ true) where
+module _ (entry : Entry) (ops : Lexeme → Option Operator) (operand : Language Expr) (operand_by : Parser Expr) (leading inner : List Form) (l : Lexeme) (o : Operator)
+    (reads : ops l ≡ Some o) (under : Under (can ops) (any leading)) (differ : all_differ leading inner ≡ true) where
   pub rule-right : (left : Expr) → Rule operand operand_by (any inner) → Rule (right_of entry ops operand left) (right_by entry ops operand_by left) (any inner)
   unfolding right_by
   rule-right left r =
@@ -78,32 +78,33 @@ module _ (entry : Entry) (ops : Lexeme → Option Operator) (operand : Language 
   heads-right left = heads-then (token ops (within entry)) (λ o. operand ▷ λ right. nothing (two o left right)) (can ops) (heads-token ops (within entry))
 
   apart-ops : Apart (can ops) (any inner)
-  apart-ops = apart-first (can ops) (any own) (any inner) under (apart own inner differ)
+  apart-ops = apart-first (can ops) (any leading) (any inner) under (apart leading inner differ)
 
-  pub rule-chain : Rule operand operand_by (any inner) → Rule (chain entry ops operand) (chain_by entry ops operand_by) (any (own ++ inner))
+  pub rule-chain : Rule operand operand_by (any inner)
+      → Rule (chain entry ops operand) (chain_by entry ops operand_by) (any (leading ++ inner))
   rule-chain r =
-      rule-then operand (repeated (right_of entry ops operand)) operand_by (many (can ops) (right_by entry ops operand_by)) (any inner) (any (own ++ inner))
-      (calms-many (right_of entry ops operand) (can ops) (right_by entry ops operand_by) (any inner) (any (own ++ inner)) (λ left s. (rule-right left r).told s) heads-right
-      apart-ops (under-right own inner) (under-both (can ops) (any own) (any (own ++ inner)) under (under-left own inner)))
+      rule-then operand (repeated (right_of entry ops operand)) operand_by (many (can ops) (right_by entry ops operand_by)) (any inner) (any (leading ++ inner))
+      (calms-many (right_of entry ops operand) (can ops) (right_by entry ops operand_by) (any inner) (any (leading ++ inner)) (λ left s. (rule-right left r).faithful s) heads-right
+      apart-ops (under-right leading inner) (under-both (can ops) (any leading) (any (leading ++ inner)) under (under-left leading inner)))
       r
-      (rule-many (right_of entry ops operand) (can ops) (right_by entry ops operand_by) (any inner) (any (own ++ inner)) heads-right apart-ops (under-right own inner)
-      (under-both (can ops) (any own) (any (own ++ inner)) under (under-left own inner)) (λ left. rule-right left r))
+      (rule-many (right_of entry ops operand) (can ops) (right_by entry ops operand_by) (any inner) (any (leading ++ inner)) heads-right apart-ops (under-right leading inner)
+      (under-both (can ops) (any leading) (any (leading ++ inner)) under (under-left leading inner)) (λ left. rule-right left r))
 
 -- which tokens operators are
 abbrev pub product_forms : List Form
 product_forms = sign (codes "*") ∷ word (codes "div") ∷ []
 
-abbrev pub sum_own : List Form
-sum_own = sign (codes "+") ∷ sign (codes "-") ∷ []
+abbrev pub sum_operators : List Form
+sum_operators = sign (codes "+") ∷ sign (codes "-") ∷ []
 
 abbrev pub sum_forms : List Form
-sum_forms = sum_own ++ product_forms
+sum_forms = sum_operators ++ product_forms
 
-abbrev pub relation_own : List Form
-relation_own = sign (codes "=") ∷ sign (codes "<>") ∷ sign (codes "<") ∷ sign (codes "<=") ∷ sign (codes ">") ∷ sign (codes ">=") ∷ []
+abbrev pub relation_operators : List Form
+relation_operators = sign (codes "=") ∷ sign (codes "<>") ∷ sign (codes "<") ∷ sign (codes "<=") ∷ sign (codes ">") ∷ sign (codes ">=") ∷ []
 
 abbrev pub comparison_forms : List Form
-comparison_forms = relation_own ++ sum_forms
+comparison_forms = relation_operators ++ sum_forms
 
 abbrev pub and_forms : List Form
 and_forms = (word (codes "and") ∷ []) ++ comparison_forms
@@ -120,10 +121,10 @@ looks-operator {f} {xs} op one = record { under = λ l e. by-value l (f l) refl 
 pub looks-product : Looks as_product product_forms
 looks-product = looks-or (looks-operator Mul (looks-sign (codes "*"))) (looks-operator Div (looks-word (codes "div")))
 
-pub looks-sum : Looks as_sum sum_own
+pub looks-sum : Looks as_sum sum_operators
 looks-sum = looks-or (looks-operator Add (looks-sign (codes "+"))) (looks-operator Sub (looks-sign (codes "-")))
 
-pub looks-relation : Looks as_relation relation_own
+pub looks-relation : Looks as_relation relation_operators
 looks-relation = looks-or (looks-operator Eq (looks-sign (codes "="))) (looks-or (looks-operator Ne (looks-sign (codes "<>"))) (looks-or (looks-operator Lt (looks-sign (codes "<")))
     (looks-or (looks-operator Le (looks-sign (codes "<="))) (looks-or (looks-operator Gt (looks-sign (codes ">"))) (looks-operator Ge (looks-sign (codes ">=")))))))
 
@@ -162,15 +163,16 @@ heads-first read passes M forms looks =
 pub heads-one : {A : Type 0} (read : Lexeme → Option A) (passes : Passes) (forms : List Form) → Looks read forms → Heads (token read passes) (any forms)
 heads-one read passes forms looks = heads-weaker (token read passes) (can read) (any forms) looks.under (heads-token read passes)
 
-pub heads-two : {A : Type 0} (L M : Language A) (xs ys : List Form) → Heads L (any xs) → Heads M (any ys) → Heads (either L M) (any (xs ++ ys))
+pub heads-two : {A : Type 0} (L M : Language A) (xs ys : List Form) → Heads L (any xs) → Heads M (any ys)
+    → Heads (alternative L M) (any (xs ++ ys))
 heads-two L M xs ys one other =
-    heads-either L M (any (xs ++ ys)) (heads-weaker L (any xs) (any (xs ++ ys)) (under-left xs ys) one) (heads-weaker M (any ys) (any (xs ++ ys)) (under-right xs ys) other)
+    heads-alternative L M (any (xs ++ ys)) (heads-weaker L (any xs) (any (xs ++ ys)) (under-left xs ys) one) (heads-weaker M (any ys) (any (xs ++ ys)) (under-right xs ys) other)
 
 -- a choice by the first token: the second part begins with other tokens
 pub choose : {A B : Type 0} (L M : Language A) (read : Lexeme → Option B) (p q : Parser A) (after : Lexeme → Bool) (xs ys : List Form) → Looks read xs → Heads L (can read) → Heads M (any ys)
-    → all_differ ys xs ≡ true → Rule L p after → Rule M q after → Rule (either L M) (either_by (can read) p q) after
+    → all_differ ys xs ≡ true → Rule L p after → Rule M q after → Rule (alternative L M) (alternative_by (can read) p q) after
 choose L M read p q after xs ys looks heads others differ r t =
-    rule-either L M (can read) p q after heads
+    rule-alternative L M (can read) p q after heads
     (calms-by-heads M (any ys) (can read) after others (apart-under (any ys) (can read) (any xs) (apart ys xs differ) looks.under)) r t
 
 abbrev pub age_forms : List Form
@@ -199,17 +201,17 @@ module _ (entry : Entry) (inner : Nest → Language Expr) (room : ℕ) where
   from-history : (w : List ℕ) (make : List ℕ → Place → Expr) → Heads (history entry room w make) (can (as_word w))
   from-history w make = heads-then (token (as_word w) (within entry)) _ (can (as_word w)) (heads-token (as_word w) (within entry))
 
-  heads-age : Heads (either (history entry room (codes "age") expr.Age) (group entry inner room)) (any age_forms)
+  heads-age : Heads (alternative (history entry room (codes "age") expr.Age) (group entry inner room)) (any age_forms)
   heads-age = heads-two (history entry room (codes "age") expr.Age) (group entry inner room) (word (codes "age") ∷ []) (sign (codes "(") ∷ []) (heads-history (codes "age") expr.Age) heads-group
 
-  heads-prev : Heads (either (history entry room (codes "prev") expr.Prev) (either (history entry room (codes "age") expr.Age) (group entry inner room))) (any prev_forms)
+  heads-prev : Heads (alternative (history entry room (codes "prev") expr.Prev) (alternative (history entry room (codes "age") expr.Age) (group entry inner room))) (any prev_forms)
   heads-prev =
-      heads-two (history entry room (codes "prev") expr.Prev) (either (history entry room (codes "age") expr.Age) (group entry inner room)) (word (codes "prev") ∷ []) age_forms
+      heads-two (history entry room (codes "prev") expr.Prev) (alternative (history entry room (codes "age") expr.Age) (group entry inner room)) (word (codes "prev") ∷ []) age_forms
       (heads-history (codes "prev") expr.Prev) heads-age
 
   heads-atom : Heads (atom entry inner room) (any atom_forms)
   heads-atom =
-      heads-two (token as_simple (within entry)) (either (history entry room (codes "prev") expr.Prev) (either (history entry room (codes "age") expr.Age) (group entry inner room)))
+      heads-two (token as_simple (within entry)) (alternative (history entry room (codes "prev") expr.Prev) (alternative (history entry room (codes "age") expr.Age) (group entry inner room)))
       simple_forms prev_forms (heads-one as_simple (within entry) simple_forms looks-simple) heads-prev
 
   from-minus : Heads (prefixed entry room (as_sign (codes "-")) (inner signed) expr.Neg) (can (as_sign (codes "-")))
@@ -247,9 +249,9 @@ module _ (entry : Entry) (inner : Nest → Language Expr) (inner_by : Nest → P
   rule-atom : Rule (atom entry inner room) (atom_by entry inner_by room) never
   unfolding atom_by
   rule-atom =
-      choose (token as_simple (within entry)) (either (history entry room (codes "prev") expr.Prev) (either (history entry room (codes "age") expr.Age) (group entry inner room)))
+      choose (token as_simple (within entry)) (alternative (history entry room (codes "prev") expr.Prev) (alternative (history entry room (codes "age") expr.Age) (group entry inner room)))
       as_simple _ _ never simple_forms prev_forms looks-simple (heads-token as_simple (within entry)) (heads-prev entry inner room) refl (rule-token as_simple (within entry) some_number_token _ refl)
-      (choose (history entry room (codes "prev") expr.Prev) (either (history entry room (codes "age") expr.Age) (group entry inner room))
+      (choose (history entry room (codes "prev") expr.Prev) (alternative (history entry room (codes "age") expr.Age) (group entry inner room))
       (as_word (codes "prev")) _ _ never (word (codes "prev") ∷ []) age_forms (looks-word (codes "prev")) (from-history entry inner room (codes "prev") expr.Prev) (heads-age entry inner room) refl
       (rule-history entry room (codes "prev") expr.Prev)
       (choose (history entry room (codes "age") expr.Age) (group entry inner room)
@@ -268,36 +270,36 @@ module _ (entry : Entry) (inner : Nest → Language Expr) (inner_by : Nest → P
 
   rule-sum : Rule (sum entry inner room) (sum_by entry inner_by room) (any sum_forms)
   unfolding sum_by
-  rule-sum = rule-chain entry as_sum (product entry inner room) (product_by entry inner_by room) sum_own product_forms (some_sign (codes "+")) _ refl looks-sum.under refl rule-product
+  rule-sum = rule-chain entry as_sum (product entry inner room) (product_by entry inner_by room) sum_operators product_forms (some_sign (codes "+")) _ refl looks-sum.under refl rule-product
 
   -- a comparison's second half, where there is one
   abbrev half : Expr → Language Expr
-  half left = either (right_of entry as_relation (sum entry inner room) left) (nothing left)
+  half left = alternative (right_of entry as_relation (sum entry inner room) left) (nothing left)
 
   rule-comparison : Rule (comparison entry inner room) (comparison_by entry inner_by room) (any comparison_forms)
   unfolding comparison_by
   rule-comparison =
-      rule-then (sum entry inner room) half (sum_by entry inner_by room) (λ left. either_by (can as_relation) (right_by entry as_relation (sum_by entry inner_by room) left) (give left))
+      rule-then (sum entry inner room) half (sum_by entry inner_by room) (λ left. alternative_by (can as_relation) (right_by entry as_relation (sum_by entry inner_by room) left) (give left))
       (any sum_forms) (any comparison_forms)
-      (λ left. calms-either (right_of entry as_relation (sum entry inner room) left) (nothing left) (any sum_forms) (any comparison_forms)
+      (λ left. calms-alternative (right_of entry as_relation (sum entry inner room) left) (nothing left) (any sum_forms) (any comparison_forms)
       (calms-by-heads (right_of entry as_relation (sum entry inner room) left) (can as_relation) (any sum_forms) (any comparison_forms) (goes-on left)
-      (apart-first (can as_relation) (any relation_own) (any sum_forms) looks-relation.under (apart relation_own sum_forms refl)))
-      (calms-nothing left (any sum_forms) (any comparison_forms) (under-right relation_own sum_forms)))
+      (apart-first (can as_relation) (any relation_operators) (any sum_forms) looks-relation.under (apart relation_operators sum_forms refl)))
+      (calms-nothing left (any sum_forms) (any comparison_forms) (under-right relation_operators sum_forms)))
       rule-sum
-      (λ left. rule-either (right_of entry as_relation (sum entry inner room) left) (nothing left) (can as_relation) (right_by entry as_relation (sum_by entry inner_by room) left) (give left)
+      (λ left. rule-alternative (right_of entry as_relation (sum entry inner room) left) (nothing left) (can as_relation) (right_by entry as_relation (sum_by entry inner_by room) left) (give left)
       (any comparison_forms) (goes-on left)
       (calms-nothing left (can as_relation) (any comparison_forms)
-      (under-both (can as_relation) (any relation_own) (any comparison_forms) looks-relation.under (under-left relation_own sum_forms)))
+      (under-both (can as_relation) (any relation_operators) (any comparison_forms) looks-relation.under (under-left relation_operators sum_forms)))
       (rule-weaker (right_of entry as_relation (sum entry inner room) left) (right_by entry as_relation (sum_by entry inner_by room) left) (any sum_forms) (any comparison_forms)
-      (under-right relation_own sum_forms) (right left))
+      (under-right relation_operators sum_forms) (right left))
       (rule-done left (any comparison_forms))) where
         goes-on : (left : Expr) → Heads (right_of entry as_relation (sum entry inner room) left) (can as_relation)
         goes-on left =
-            heads-right entry as_relation (sum entry inner room) (sum_by entry inner_by room) relation_own sum_forms (some_sign (codes "=")) _ refl looks-relation.under refl left
+            heads-right entry as_relation (sum entry inner room) (sum_by entry inner_by room) relation_operators sum_forms (some_sign (codes "=")) _ refl looks-relation.under refl left
 
         right : (left : Expr) → Rule (right_of entry as_relation (sum entry inner room) left) (right_by entry as_relation (sum_by entry inner_by room) left) (any sum_forms)
         right left =
-            rule-right entry as_relation (sum entry inner room) (sum_by entry inner_by room) relation_own sum_forms (some_sign (codes "=")) _ refl looks-relation.under refl left rule-sum
+            rule-right entry as_relation (sum entry inner room) (sum_by entry inner_by room) relation_operators sum_forms (some_sign (codes "=")) _ refl looks-relation.under refl left rule-sum
 
   pub rule-negation : Rule (negation entry inner room) (negation_by entry inner_by room) (any comparison_forms)
   unfolding negation_by

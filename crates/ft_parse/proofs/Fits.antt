@@ -17,36 +17,7 @@ use Rattle.ft_tree.specs.meaning.Limits.{Nested, is_expr, is_lawful, is_number, 
 use Rattle.ft_tree.specs.meaning.Line.{Piece, token}
 use Rattle.ft_tree.specs.laws.ExprParts.{lawful-Age, lawful-Name, lawful-Neg, lawful-Not, lawful-Num, lawful-Prev, lawful-Two, spelled-Age}
 use Rattle.ft_tree.specs.laws.ExprParts.{spelled-Name, spelled-Neg, spelled-Not, spelled-Num, spelled-Prev, spelled-Truth, spelled-Two}
-
-of_nested : (expr : Expr) (a_layer : Expr-F Expr) → roll-Expr a_layer ≡ expr
-    → nested expr ≡ nested_layer (map-Expr Expr Nested nested a_layer)
-unfolding nested
-of_nested expr a_layer rolled = ap nested (sym rolled) ∙ fold-roll-Expr Nested nested_layer a_layer
-
-nested-Num : (value : ℕ) (place : Place) → nested (Num value place) ≡ nests Atom 0
-nested-Num value place = of_nested _ (layer.Num value place) (rolls-Num value place)
-
-nested-Name : (name : List ℕ) (place : Place) → nested (Name name place) ≡ nests Atom 0
-nested-Name name place = of_nested _ (layer.Name name place) (rolls-Name name place)
-
-nested-Truth : (value : Bool) (place : Place) → nested (Truth value place) ≡ nests Atom 0
-nested-Truth value place = of_nested _ (layer.Truth value place) (rolls-Truth value place)
-
-nested-Prev : (name : List ℕ) (place : Place) → nested (Prev name place) ≡ nests Atom 1
-nested-Prev name place = of_nested _ (layer.Prev name place) (rolls-Prev name place)
-
-nested-Age : (name : List ℕ) (place : Place) → nested (Age name place) ≡ nests Atom 1
-nested-Age name place = of_nested _ (layer.Age name place) (rolls-Age name place)
-
-nested-Not : (part : Expr) (place : Place) → nested (Not part place) ≡ nests Negation (suc (operand_depth Negation (nested part)))
-nested-Not part place = of_nested _ (layer.Not part place) (rolls-Not part place)
-
-nested-Neg : (part : Expr) (place : Place) → nested (Neg part place) ≡ nests Unary (suc (operand_depth Unary (nested part)))
-nested-Neg part place = of_nested _ (layer.Neg part place) (rolls-Neg part place)
-
-nested-Two : (op : Op) (left right : Expr) (place : Place)
-    → nested (Two op left right place) ≡ nests (op_level op) (max (operand_depth (left_level op) (nested left)) (operand_depth (right_level op) (nested right)))
-nested-Two op left right place = of_nested _ (layer.Two op left right place) (rolls-Two op left right place)
+use Rattle.ft_parse.proofs.SameLemmas.{nested-Num, nested-Name, nested-Truth, nested-Prev, nested-Age, nested-Not, nested-Neg, nested-Two}
 
 lawful-Truth : (value : Bool) (place : Place) → is_lawful (Truth value place) ≡ true
 unfolding is_lawful
@@ -93,11 +64,11 @@ shorter true false ps h = cc (h refl)
 shorter false true ps h = omega (arith, length-append ps (token (codes ")") ∷ []))
 shorter false false ps h = le_refl _
 
-lower : (x y : Bool) (d : ℕ) → (x ≡ true → y ≡ true) → (if x then suc d else d) ≤ (if y then suc d else d)
-lower true true d h = le_refl _
-lower true false d h = cc (h refl)
-lower false true d h = omega arith
-lower false false d h = le_refl _
+depth-monotone : (x y : Bool) (d : ℕ) → (x ≡ true → y ≡ true) → (if x then suc d else d) ≤ (if y then suc d else d)
+depth-monotone true true d h = le_refl _
+depth-monotone true false d h = cc (h refl)
+depth-monotone false true d h = omega arith
+depth-monotone false false d h = le_refl _
 
 shorter-pieces : (tight loose : Level) → nat_le (rank loose) (rank tight) ≡ true → (p : Spelled)
     → length (operand loose p) ≤ length (operand tight p)
@@ -114,7 +85,7 @@ fit-looser tight loose {room} {n} {e} le f = record {
   low = omega (
     arith,
     f.low,
-    lower (is_looser (nested e).level loose) (is_looser (nested e).level tight) (nested e).depth
+    depth-monotone (is_looser (nested e).level loose) (is_looser (nested e).level tight) (nested e).depth
         (looser-below (rank (nested e).level) (rank loose) (rank tight) le),
   );
 }

@@ -14,7 +14,7 @@ use Rattle.ft_tree.specs.declared.item.Word.{Word}
 use Rattle.ft_tree.specs.declared.item.SectionWord.{SectionWord}
 use Rattle.ft_tree.specs.declared.item.VarWord.{VarWord}
 use Rattle.ft_read.specs.meaning.Lexeme.{Lexeme, as_end, as_name, as_sign, as_word}
-use Rattle.ft_parse.specs.meaning.Language.{Language, Step, either, nothing, repeated, step, times, token, ◌▷◌}
+use Rattle.ft_parse.specs.meaning.Language.{Language, Step, alternative, nothing, repeated, step, times, token, ◌▷◌}
 use Rattle.ft_read.specs.meaning.Limit.{Passes, no_pass}
 use Rattle.ft_parse.specs.meaning.Expressions.{Nest, atom, chain, comparison, conjunction, expression, group, history, layer, negated}
 use Rattle.ft_parse.specs.meaning.Expressions.{negation, nested, prefixed, product, right_of, signed, sum, unary, whole}
@@ -95,9 +95,9 @@ unfolding ◌▷◌
       rw is (inner-append us vs (first.all at us a f) ((second a).all (at + length us) vs b g));
 }
 
-one-of : {A : Type 0} {L M : Language A} → Inner L → Inner M → Inner (either L M)
+one-of : {A : Type 0} {L M : Language A} → Inner L → Inner M → Inner (alternative L M)
 one-of {A} {L} {M} one other = record { all = all } where
-  all : (at : ℕ) (steps : List Step) (a : A) → either L M at steps a → AllInner steps
+  all : (at : ℕ) (steps : List Step) (a : A) → alternative L M at steps a → AllInner steps
   all at steps a (inl h) = one.all at steps a h
   all at steps a (inr h) = other.all at steps a h
 

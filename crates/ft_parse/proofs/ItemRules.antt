@@ -19,19 +19,18 @@ use Rattle.ft_tree.specs.declared.item.FactItem.TheVariants as fact
 use Rattle.ft_tree.specs.declared.item.Item.{Item}
 use Rattle.ft_tree.specs.declared.item.Item.TheVariants as item
 use Rattle.ft_tree.specs.meaning.Limits.{Sort, tables}
-use Rattle.ft_read.specs.meaning.Lexeme.{Lexeme, as_end, as_name, as_number, as_sign, as_word}
-use Rattle.ft_parse.specs.meaning.Language.{Language, Step, either, nothing, repeated, times, token, ◌▷◌}
-use Rattle.ft_read.specs.meaning.Limit.{Passes, no_pass, alone, counted, counted_at}
+use Rattle.ft_read.specs.meaning.Lexeme.{Lexeme, as_end, as_name, as_number, as_sign, as_word, or_else}
+use Rattle.ft_parse.specs.meaning.Language.{Language, Step, alternative, nothing, repeated, times, token, ◌▷◌}
+use Rattle.ft_read.specs.meaning.Limit.{Passes, no_pass, lexical_passes, counted, counted_at}
 use Rattle.ft_parse.specs.meaning.Room.{is_full}
 use Rattle.ft_parse.specs.meaning.Expressions.{expression}
-use Rattle.ft_read.specs.meaning.Operators.{or_else}
 use Rattle.ft_read.specs.meaning.Choices.{as_map, as_moment, as_plain, as_side, as_start, as_truth, as_var_word}
 use Rattle.ft_parse.specs.meaning.Items.{block, bound, clause, constant, declared, entries, fact_name, fact_part, grid, header, held, hyst}
 use Rattle.ft_parse.specs.meaning.Items.{inner_variable, item_part, kind_of_name, kind_part, listed, members, minus_bound, more_entries}
 use Rattle.ft_parse.specs.meaning.Items.{more_items, more_names, name, names, number, number_bound, plain_bound, range_after, range_type}
 use Rattle.ft_parse.specs.meaning.Items.{row, row_word, set, setting, several, sided, sign, signed_number, table, type_item, upper, value}
 use Rattle.ft_parse.specs.meaning.Items.{variable, vector_grid, vrow, word}
-use Rattle.ft_read.specs.parsers.Combinators.{Parser, can, either_by, give, is_some, read_token, ◌▶◌}
+use Rattle.ft_read.specs.parsers.Combinators.{Parser, can, alternative_by, give, is_some, read_token, ◌▶◌}
 use Rattle.ft_parse.specs.parsers.Repetition.{many}
 use Rattle.ft_parse.specs.parsers.Expressions.{expression_by}
 use Rattle.ft_parse.specs.parsers.Items.{as_fact_word, block_by, clause_by, constant_by, declared_by, entries_by, fact_name_by}
@@ -53,7 +52,7 @@ use Rattle.ft_parse.proofs.Forms.{Form, Looks, all_differ, any, apart, looks-end
 use Rattle.ft_parse.proofs.Forms.{looks-sign, looks-word, some_end, some_name, some_number, under-both}
 use Rattle.ft_parse.proofs.Many.{Heads}
 use Rattle.ft_parse.proofs.NestedRules.{rule-expression}
-use Rattle.ft_parse.proofs.Rule.{Rule, before, heads-either, heads-then, heads-token, heads-weaker, next, rule-either, rule-give}
+use Rattle.ft_parse.proofs.Rule.{Rule, before, heads-alternative, heads-then, heads-token, heads-weaker, next, rule-alternative, rule-give}
 use Rattle.ft_parse.proofs.Rule.{rule-many, rule-token, rule-weaker}
 use Rattle.ft_parse.proofs.Whole.{Apart, Under, calms-by-heads, calms-many, calms-nothing, never}
 
@@ -76,11 +75,11 @@ rule-sign w = rule-token (as_sign w) no_pass (some_sign w) here (same-sign w)
 
 rule-number : Rule number number_by never
 unfolding number_by
-rule-number = rule-token as_number alone some_number_token _ refl
+rule-number = rule-token as_number lexical_passes some_number_token _ refl
 
 rule-name : Rule name name_by never
 unfolding name_by
-rule-name = rule-token as_name alone some_name_token _ refl
+rule-name = rule-token as_name lexical_passes some_name_token _ refl
 
 rule-declared : (sort : Sort) (which : LimitWord) (items : List Item) → Rule (declared sort which items) (declared_by sort which items) never
 unfolding declared_by
@@ -92,7 +91,7 @@ looks-plain = looks-or (looks-map (λ n. record { minus = false; value = plain.N
 
 rule-plain : Rule plain_bound plain_bound_by never
 unfolding plain_bound_by
-rule-plain = rule-token as_plain alone some_number_token _ refl
+rule-plain = rule-token as_plain lexical_passes some_number_token _ refl
 
 rule-minus : Rule minus_bound minus_bound_by never
 unfolding minus_bound_by
@@ -108,7 +107,7 @@ from-word : {A : Type 0} (w : List ℕ) (M : Place → Language A) → Heads (wo
 from-word w M = heads-then (token (as_word w) no_pass) M (can (as_word w)) (heads-token (as_word w) no_pass)
 
 heads-plain : Heads plain_bound (any (some_number ∷ some_name ∷ []))
-heads-plain = heads-one as_plain alone (some_number ∷ some_name ∷ []) looks-plain
+heads-plain = heads-one as_plain lexical_passes (some_number ∷ some_name ∷ []) looks-plain
 
 rule-bound : Rule bound bound_by never
 unfolding bound_by
@@ -142,7 +141,7 @@ dots = forms.sign (codes "..") ∷ []
 rule-kind-of-name : (w : Word) → Rule (kind_of_name w) (kind_of_name_by w) (any dots)
 unfolding kind_of_name_by
 rule-kind-of-name w =
-    rule-either (upper ▷ λ hi. nothing (kind.Range (record { minus = false; value = plain.Name w.text; place = w.place }) hi)) (nothing (kind.Named w)) (can (as_sign (codes "..")))
+    rule-alternative (upper ▷ λ hi. nothing (kind.Range (record { minus = false; value = plain.Name w.text; place = w.place }) hi)) (nothing (kind.Named w)) (can (as_sign (codes "..")))
     _ _ (any dots) (heads-then upper _ (can (as_sign (codes ".."))) (from-sign (codes "..") _))
     (calms-nothing (kind.Named w) (can (as_sign (codes ".."))) (any dots) (looks-sign (codes "..")).under)
     (rule-weaker _ _ never (any dots) (λ l e. cc e) (rule-map upper upper_by (λ hi. kind.Range (record { minus = false; value = plain.Name w.text; place = w.place }) hi) never rule-upper))
@@ -157,45 +156,46 @@ unfolding range_after_by
 rule-range-after lo = rule-map upper upper_by (λ hi. kind.Range lo hi) never rule-upper
 
 heads-number-bound : Heads number_bound (any (some_number ∷ []))
-heads-number-bound = heads-first as_number alone _ (some_number ∷ []) looks-number
+heads-number-bound = heads-first as_number lexical_passes _ (some_number ∷ []) looks-number
 
 abbrev number_forms : List Form
 number_forms = forms.sign (codes "-") ∷ some_number ∷ []
 
-heads-range : Heads (either minus_bound number_bound ▷ range_after) (any number_forms)
-heads-range = heads-then (either minus_bound number_bound) range_after (any number_forms)
+heads-range : Heads (alternative minus_bound number_bound ▷ range_after) (any number_forms)
+heads-range = heads-then (alternative minus_bound number_bound) range_after (any number_forms)
     (heads-two minus_bound number_bound (forms.sign (codes "-") ∷ []) (some_number ∷ []) heads-minus heads-number-bound)
 
 heads-named : Heads (name ▷ kind_of_name) (any (some_name ∷ []))
-heads-named = heads-first as_name alone kind_of_name (some_name ∷ []) looks-name
+heads-named = heads-first as_name lexical_passes kind_of_name (some_name ∷ []) looks-name
 
 rule-kind-part : Rule kind_part kind_part_by (any dots)
 unfolding kind_part_by
 rule-kind-part =
-    choose (word (codes "bool") ▷ λ _. nothing kind.Bool) (either (name ▷ kind_of_name) (either minus_bound number_bound ▷ range_after)) (as_word (codes "bool")) _ _ (any dots)
+    choose (word (codes "bool") ▷ λ _. nothing kind.Bool) (alternative (name ▷ kind_of_name) (alternative minus_bound number_bound ▷ range_after)) (as_word (codes "bool")) _ _ (any dots)
     (forms.word (codes "bool") ∷ []) (some_name ∷ number_forms) (looks-word (codes "bool")) (from-word (codes "bool") _)
-    (heads-two (name ▷ kind_of_name) (either minus_bound number_bound ▷ range_after) (some_name ∷ []) number_forms heads-named heads-range) refl
+    (heads-two (name ▷ kind_of_name) (alternative minus_bound number_bound ▷ range_after) (some_name ∷ []) number_forms heads-named heads-range) refl
     (next (rule-word (codes "bool")) (λ _. rule-done kind.Bool (any dots)))
-    (choose (name ▷ kind_of_name) (either minus_bound number_bound ▷ range_after) as_name _ _ (any dots) (some_name ∷ []) number_forms looks-name
-    (heads-then name kind_of_name (can as_name) (heads-token as_name alone)) heads-range refl
+    (choose (name ▷ kind_of_name) (alternative minus_bound number_bound ▷ range_after) as_name _ _ (any dots) (some_name ∷ []) number_forms looks-name
+    (heads-then name kind_of_name (can as_name) (heads-token as_name lexical_passes)) heads-range refl
     (next rule-name rule-kind-of-name)
     (rule-weaker _ _ never (any dots) (λ l e. cc e)
     (next (choose minus_bound number_bound (as_sign (codes "-")) _ _ never (forms.sign (codes "-") ∷ []) (some_number ∷ []) (looks-sign (codes "-")) (from-sign (codes "-") _) heads-number-bound refl
     rule-minus rule-number-bound) rule-range-after)))
 
 -- a part, and then others as long as a token of their own follows
-module _ {A B C : Type 0} (L : Language A) (p : Parser A) (start : A → B) (part : B → Language B) (part_by : B → Parser B) (read : Lexeme → Option C) (own inner : List Form)
-    (looks : Looks read own) (differ : all_differ own inner ≡ true) (heads : (b : B) → Heads (part b) (can read)) (rules : (b : B) → Rule (part b) (part_by b) (any inner)) where
+module _ {A B C : Type 0} (L : Language A) (p : Parser A) (start : A → B) (part : B → Language B) (part_by : B → Parser B) (read : Lexeme → Option C) (leading inner : List Form)
+    (looks : Looks read leading) (differ : all_differ leading inner ≡ true) (heads : (b : B) → Heads (part b) (can read)) (rules : (b : B) → Rule (part b) (part_by b) (any inner)) where
   apart-read : Apart (can read) (any inner)
-  apart-read = apart-first (can read) (any own) (any inner) looks.under (apart own inner differ)
+  apart-read = apart-first (can read) (any leading) (any inner) looks.under (apart leading inner differ)
 
-  read-under : Under (can read) (any (own ++ inner))
-  read-under = under-both (can read) (any own) (any (own ++ inner)) looks.under (under-left own inner)
+  read-under : Under (can read) (any (leading ++ inner))
+  read-under = under-both (can read) (any leading) (any (leading ++ inner)) looks.under (under-left leading inner)
 
-  rule-list : Rule L p (any inner) → Rule (L ▷ λ a. repeated part (start a)) (p ▶ λ a. many (can read) part_by (start a)) (any (own ++ inner))
+  rule-list : Rule L p (any inner)
+      → Rule (L ▷ λ a. repeated part (start a)) (p ▶ λ a. many (can read) part_by (start a)) (any (leading ++ inner))
   rule-list r =
-      before (λ a. calms-many part (can read) part_by (any inner) (any (own ++ inner)) (λ b s. (rules b).told s) heads apart-read (under-right own inner) read-under (start a)) r
-      (λ a. rule-many part (can read) part_by (any inner) (any (own ++ inner)) heads apart-read (under-right own inner) read-under rules (start a))
+      before (λ a. calms-many part (can read) part_by (any inner) (any (leading ++ inner)) (λ b s. (rules b).faithful s) heads apart-read (under-right leading inner) read-under (start a)) r
+      (λ a. rule-many part (can read) part_by (any inner) (any (leading ++ inner)) heads apart-read (under-right leading inner) read-under rules (start a))
 
 abbrev comma : List Form
 comma = forms.sign (codes ",") ∷ []
@@ -226,11 +226,13 @@ rule-names most which =
     rule-list name name_by (λ w. w ∷ []) (more_names most which) (more_names_by most which) (as_sign (codes ",")) comma [] (looks-sign (codes ",")) refl
     (λ ws. from-sign (codes ",") _) (rule-more-names most which) rule-name
 
-rule-several : {A C : Type 0} (part : ℕ → Language A) (part_by : ℕ → Parser A) (read : Lexeme → Option C) (own : List Form) → Looks read own → all_differ own [] ≡ true
-    → ((n : ℕ) → Heads (part n) (can read)) → ((n : ℕ) → Rule (part n) (part_by n) never) → Rule (several part) (several_by (can read) part_by) (any (own ++ []))
+rule-several : {A C : Type 0} (part : ℕ → Language A) (part_by : ℕ → Parser A) (read : Lexeme → Option C) (leading : List Form)
+    → Looks read leading → all_differ leading [] ≡ true
+    → ((n : ℕ) → Heads (part n) (can read)) → ((n : ℕ) → Rule (part n) (part_by n) never)
+    → Rule (several part) (several_by (can read) part_by) (any (leading ++ []))
 unfolding several_by
-rule-several part part_by read own looks differ heads rules =
-    rule-list (part 0) (part_by 0) (λ a. a ∷ []) (λ done. part (length done) ▷ λ b. nothing (done ++ b ∷ [])) (λ done. part_by (length done) ▶ λ b. give (done ++ b ∷ [])) read own [] looks differ
+rule-several part part_by read leading looks differ heads rules =
+    rule-list (part 0) (part_by 0) (λ a. a ∷ []) (λ done. part (length done) ▷ λ b. nothing (done ++ b ∷ [])) (λ done. part_by (length done) ▶ λ b. give (done ++ b ∷ [])) read leading [] looks differ
     (λ done. heads-then (part (length done)) _ (can read) (heads (length done))) (λ done. rule-map (part (length done)) (part_by (length done)) (λ b. done ++ b ∷ []) never (rules (length done))) (rules 0)
 
 rule-row-word : (n : ℕ) → Rule (row_word n) (row_word_by n) never
@@ -343,7 +345,8 @@ hyst_forms = forms.word (codes "hyst") ∷ table_forms
 abbrev held_forms : List Form
 held_forms = forms.word (codes "held") ∷ hyst_forms
 
-heads-hyst : (items : List Item) (s : SectionAt) → Heads (either (word (codes "hyst") ▷ λ _. hyst items s.word) (table items s)) (any hyst_forms)
+heads-hyst : (items : List Item) (s : SectionAt)
+    → Heads (alternative (word (codes "hyst") ▷ λ _. hyst items s.word) (table items s)) (any hyst_forms)
 heads-hyst items s =
     heads-two (word (codes "hyst") ▷ λ _. hyst items s.word) (table items s) (forms.word (codes "hyst") ∷ []) table_forms
     (heads-first (as_word (codes "hyst")) no_pass _ (forms.word (codes "hyst") ∷ []) (looks-word (codes "hyst"))) (heads-table items s)
@@ -351,12 +354,12 @@ heads-hyst items s =
 rule-sided : (items : List Item) (s : SectionAt) → Rule (sided items s) (sided_by items s) never
 unfolding sided_by
 rule-sided items s =
-    choose (word (codes "var") ▷ λ _. variable items (inner_variable s.word)) (either (word (codes "held") ▷ λ _. held items s.word) (either (word (codes "hyst") ▷ λ _. hyst items s.word) (table items s)))
+    choose (word (codes "var") ▷ λ _. variable items (inner_variable s.word)) (alternative (word (codes "held") ▷ λ _. held items s.word) (alternative (word (codes "hyst") ▷ λ _. hyst items s.word) (table items s)))
     (as_word (codes "var")) _ _ never (forms.word (codes "var") ∷ []) held_forms (looks-word (codes "var")) (from-word (codes "var") _)
-    (heads-two (word (codes "held") ▷ λ _. held items s.word) (either (word (codes "hyst") ▷ λ _. hyst items s.word) (table items s)) (forms.word (codes "held") ∷ []) hyst_forms
+    (heads-two (word (codes "held") ▷ λ _. held items s.word) (alternative (word (codes "hyst") ▷ λ _. hyst items s.word) (table items s)) (forms.word (codes "held") ∷ []) hyst_forms
     (heads-first (as_word (codes "held")) no_pass _ (forms.word (codes "held") ∷ []) (looks-word (codes "held"))) (heads-hyst items s)) refl
     (next (rule-word (codes "var")) (λ _. rule-variable items (inner_variable s.word)))
-    (choose (word (codes "held") ▷ λ _. held items s.word) (either (word (codes "hyst") ▷ λ _. hyst items s.word) (table items s))
+    (choose (word (codes "held") ▷ λ _. held items s.word) (alternative (word (codes "hyst") ▷ λ _. hyst items s.word) (table items s))
     (as_word (codes "held")) _ _ never (forms.word (codes "held") ∷ []) hyst_forms (looks-word (codes "held")) (from-word (codes "held") _) (heads-hyst items s) refl
     (next (rule-word (codes "held")) (λ _. rule-held items s.word))
     (choose (word (codes "hyst") ▷ λ _. hyst items s.word) (table items s)
@@ -367,7 +370,7 @@ rule-signed-number : Rule signed_number signed_number_by never
 unfolding signed_number_by
 rule-signed-number =
     choose (sign (codes "-") ▷ λ _. number ▷ λ n. nothing (true, n)) (number ▷ λ n. nothing (false, n)) (as_sign (codes "-")) _ _ never (forms.sign (codes "-") ∷ []) (some_number ∷ [])
-    (looks-sign (codes "-")) (from-sign (codes "-") _) (heads-first as_number alone _ (some_number ∷ []) looks-number) refl
+    (looks-sign (codes "-")) (from-sign (codes "-") _) (heads-first as_number lexical_passes _ (some_number ∷ []) looks-number) refl
     (next (rule-sign (codes "-")) (λ _. rule-map number number_by (λ n. (true, n)) never rule-number)) (rule-map number number_by (λ n. (false, n)) never rule-number)
 
 rule-constant : (items : List Item) → Rule (constant items) (constant_by items) never
@@ -405,9 +408,9 @@ rule-clause items =
 
 -- a part that may be absent
 module _ {A : Type 0} (L : Language A) (p : Parser A) (w : List ℕ) (none : A) (heads : Heads L (can (as_word w))) (r : Rule L p never) where
-  rule-optional : Rule (either L (nothing none)) (either_by (can (as_word w)) p (give none)) (any (forms.word w ∷ []))
+  rule-optional : Rule (alternative L (nothing none)) (alternative_by (can (as_word w)) p (give none)) (any (forms.word w ∷ []))
   rule-optional =
-      rule-either L (nothing none) (can (as_word w)) p (give none) (any (forms.word w ∷ [])) heads
+      rule-alternative L (nothing none) (can (as_word w)) p (give none) (any (forms.word w ∷ [])) heads
       (calms-nothing none (can (as_word w)) (any (forms.word w ∷ [])) (looks-word w).under)
       (rule-weaker L p never (any (forms.word w ∷ [])) (λ l e. cc e) r) (rule-done none (any (forms.word w ∷ [])))
 
@@ -451,7 +454,7 @@ some-or None y (inr e) = e
 
 heads-fact : (items : List Item) (n : ℕ) → Heads (fact_part items n) (can as_fact_word)
 heads-fact items n =
-    heads-either (word (codes "shows") ▷ λ _. fact_name items n ▷ λ w. sign (codes ":") ▷ λ _. expression false ▷ λ cond. sign (codes ";") ▷ λ _. nothing (fact.Shows w cond))
+    heads-alternative (word (codes "shows") ▷ λ _. fact_name items n ▷ λ w. sign (codes ":") ▷ λ _. expression false ▷ λ cond. sign (codes ";") ▷ λ _. nothing (fact.Shows w cond))
     (word (codes "goal") ▷ λ _. fact_name items n ▷ λ w. sign (codes ";") ▷ λ _. nothing (fact.Goal w)) (can as_fact_word)
     (heads-weaker _ (can (as_word (codes "shows"))) (can as_fact_word) (λ l e. some-or (as_word (codes "shows") l) (as_word (codes "goal") l) (inl e)) (from-word (codes "shows") _))
     (heads-weaker _ (can (as_word (codes "goal"))) (can as_fact_word) (λ l e. some-or (as_word (codes "shows") l) (as_word (codes "goal") l) (inr e)) (from-word (codes "goal") _))
@@ -467,7 +470,7 @@ heads-facts items = heads-then (fact_part items 0) _ (any fact_forms) (heads-wea
 
 -- a part that may be absent, and one after it
 heads-after : {A B : Type 0} (L : Language A) (none : A) (M : A → Language B) (xs ys : List Form) → Heads L (any xs)
-    → ((a : A) → Heads (M a) (any ys)) → Heads (either L (nothing none) ▷ M) (any (xs ++ ys))
+    → ((a : A) → Heads (M a) (any ys)) → Heads (alternative L (nothing none) ▷ M) (any (xs ++ ys))
 unfolding ◌▷◌
 heads-after L none M xs ys first others at steps b (a, us, vs, is, inl h, k) =
     let (s, more, head, e) = first at us a h in
@@ -522,23 +525,23 @@ block_forms = forms.word (codes "block") ∷ []
 abbrev nat_forms : List Form
 nat_forms = forms.word (codes "nat") ∷ block_forms
 
-abbrev map_own : List Form
-map_own = forms.word (codes "in") ∷ forms.word (codes "out") ∷ []
+abbrev map_words : List Form
+map_words = forms.word (codes "in") ∷ forms.word (codes "out") ∷ []
 
 abbrev map_forms : List Form
-map_forms = map_own ++ nat_forms
+map_forms = map_words ++ nat_forms
 
-abbrev side_own : List Form
-side_own = forms.word (codes "req") ∷ forms.word (codes "sof") ∷ []
+abbrev side_words : List Form
+side_words = forms.word (codes "req") ∷ forms.word (codes "sof") ∷ []
 
 abbrev side_forms : List Form
-side_forms = side_own ++ map_forms
+side_forms = side_words ++ map_forms
 
-abbrev var_own : List Form
-var_own = forms.word (codes "mon") ∷ forms.word (codes "con") ∷ forms.word (codes "input") ∷ forms.word (codes "output") ∷ []
+abbrev var_words : List Form
+var_words = forms.word (codes "mon") ∷ forms.word (codes "con") ∷ forms.word (codes "input") ∷ forms.word (codes "output") ∷ []
 
 abbrev var_forms : List Form
-var_forms = var_own ++ side_forms
+var_forms = var_words ++ side_forms
 
 abbrev type_forms : List Form
 type_forms = forms.word (codes "type") ∷ var_forms
@@ -548,19 +551,19 @@ item_forms = forms.word (codes "const") ∷ type_forms
 
 -- the alternatives of an item, from the last
 abbrev from_nat : List Item → Language Item
-from_nat items = either (clause items) (block items)
+from_nat items = alternative (clause items) (block items)
 
 abbrev from_map : List Item → Language Item
-from_map items = either (token as_map no_pass ▷ table items) (from_nat items)
+from_map items = alternative (token as_map no_pass ▷ table items) (from_nat items)
 
 abbrev from_side : List Item → Language Item
-from_side items = either (token as_side no_pass ▷ sided items) (from_map items)
+from_side items = alternative (token as_side no_pass ▷ sided items) (from_map items)
 
 abbrev from_var : List Item → Language Item
-from_var items = either (token as_var_word no_pass ▷ variable items) (from_side items)
+from_var items = alternative (token as_var_word no_pass ▷ variable items) (from_side items)
 
 abbrev from_type : List Item → Language Item
-from_type items = either (type_item items) (from_var items)
+from_type items = alternative (type_item items) (from_var items)
 
 heads-block : (items : List Item) → Heads (block items) (any block_forms)
 heads-block items = heads-first (as_word (codes "block")) no_pass _ block_forms (looks-word (codes "block"))
@@ -569,13 +572,13 @@ heads-nat : (items : List Item) → Heads (from_nat items) (any nat_forms)
 heads-nat items = heads-two (clause items) (block items) (forms.word (codes "nat") ∷ []) block_forms (heads-first (as_word (codes "nat")) _ _ (forms.word (codes "nat") ∷ []) (looks-word (codes "nat"))) (heads-block items)
 
 heads-map : (items : List Item) → Heads (from_map items) (any map_forms)
-heads-map items = heads-two (token as_map no_pass ▷ table items) (from_nat items) map_own nat_forms (heads-first as_map no_pass (table items) map_own looks-map-word) (heads-nat items)
+heads-map items = heads-two (token as_map no_pass ▷ table items) (from_nat items) map_words nat_forms (heads-first as_map no_pass (table items) map_words looks-map-word) (heads-nat items)
 
 heads-side : (items : List Item) → Heads (from_side items) (any side_forms)
-heads-side items = heads-two (token as_side no_pass ▷ sided items) (from_map items) side_own map_forms (heads-first as_side no_pass (sided items) side_own looks-side) (heads-map items)
+heads-side items = heads-two (token as_side no_pass ▷ sided items) (from_map items) side_words map_forms (heads-first as_side no_pass (sided items) side_words looks-side) (heads-map items)
 
 heads-var : (items : List Item) → Heads (from_var items) (any var_forms)
-heads-var items = heads-two (token as_var_word no_pass ▷ variable items) (from_side items) var_own side_forms (heads-first as_var_word no_pass (variable items) var_own looks-var-word) (heads-side items)
+heads-var items = heads-two (token as_var_word no_pass ▷ variable items) (from_side items) var_words side_forms (heads-first as_var_word no_pass (variable items) var_words looks-var-word) (heads-side items)
 
 heads-type : (items : List Item) → Heads (from_type items) (any type_forms)
 heads-type items = heads-two (type_item items) (from_var items) (forms.word (codes "type") ∷ []) var_forms (heads-first (as_word (codes "type")) no_pass _ (forms.word (codes "type") ∷ []) (looks-word (codes "type"))) (heads-var items)
@@ -588,11 +591,11 @@ unfolding item_part_by
 rule-item items =
     choose (constant items) (from_type items) (as_word (codes "const")) _ _ never (forms.word (codes "const") ∷ []) type_forms (looks-word (codes "const")) (from-word (codes "const") _) (heads-type items) refl (rule-constant items)
     (choose (type_item items) (from_var items) (as_word (codes "type")) _ _ never (forms.word (codes "type") ∷ []) var_forms (looks-word (codes "type")) (from-word (codes "type") _) (heads-var items) refl (rule-type-item items)
-    (choose (token as_var_word no_pass ▷ variable items) (from_side items) as_var_word _ _ never var_own side_forms looks-var-word (heads-then (token as_var_word no_pass) (variable items) (can as_var_word) (heads-token as_var_word no_pass)) (heads-side items) refl
+    (choose (token as_var_word no_pass ▷ variable items) (from_side items) as_var_word _ _ never var_words side_forms looks-var-word (heads-then (token as_var_word no_pass) (variable items) (can as_var_word) (heads-token as_var_word no_pass)) (heads-side items) refl
     (next (rule-token as_var_word no_pass (some_word (codes "mon")) _ refl) (rule-variable items))
-    (choose (token as_side no_pass ▷ sided items) (from_map items) as_side _ _ never side_own map_forms looks-side (heads-then (token as_side no_pass) (sided items) (can as_side) (heads-token as_side no_pass)) (heads-map items) refl
+    (choose (token as_side no_pass ▷ sided items) (from_map items) as_side _ _ never side_words map_forms looks-side (heads-then (token as_side no_pass) (sided items) (can as_side) (heads-token as_side no_pass)) (heads-map items) refl
     (next (rule-token as_side no_pass (some_word (codes "req")) _ refl) (rule-sided items))
-    (choose (token as_map no_pass ▷ table items) (from_nat items) as_map _ _ never map_own nat_forms looks-map-word (heads-then (token as_map no_pass) (table items) (can as_map) (heads-token as_map no_pass)) (heads-nat items) refl
+    (choose (token as_map no_pass ▷ table items) (from_nat items) as_map _ _ never map_words nat_forms looks-map-word (heads-then (token as_map no_pass) (table items) (can as_map) (heads-token as_map no_pass)) (heads-nat items) refl
     (next (rule-token as_map no_pass (some_word (codes "in")) _ refl) (rule-table items))
     (choose (clause items) (block items) (as_word (codes "nat")) _ _ never (forms.word (codes "nat") ∷ []) block_forms (looks-word (codes "nat"))
     (heads-then (token (as_word (codes "nat")) _) _ (can (as_word (codes "nat"))) (heads-token (as_word (codes "nat")) _)) (heads-block items) refl
@@ -640,9 +643,10 @@ same-start : (l : Lexeme) → is_item_start l ≡ starts l
 same-start l = regrouped (can (as_word (codes "const")) l) (can (as_word (codes "type")) l) (can as_var_word l) (can as_side l) (can as_map l) (can (as_word (codes "nat")) l) (can (as_word (codes "block")) l)
 
 -- the one, or the other
-start-two : {A B : Type 0} (L M : Language A) (read : Lexeme → Option B) (test : Lexeme → Bool) → Heads L (can read) → Heads M test → Heads (either L M) (λ l. can read l || test l)
+start-two : {A B : Type 0} (L M : Language A) (read : Lexeme → Option B) (test : Lexeme → Bool) → Heads L (can read) → Heads M test
+    → Heads (alternative L M) (λ l. can read l || test l)
 start-two L M read test one other =
-    heads-either L M (λ l. can read l || test l) (heads-weaker L (can read) (λ l. can read l || test l) (λ l e. or-left (can read l) (test l) e) one)
+    heads-alternative L M (λ l. can read l || test l) (heads-weaker L (can read) (λ l. can read l || test l) (λ l e. or-left (can read l) (test l) e) one)
     (heads-weaker M test (λ l. can read l || test l) (λ l e. or-right (can read l) (test l) e) other)
 
 starts-item : (items : List Item) → Heads (item_part items) is_item_start
@@ -669,9 +673,9 @@ item-start l e = starts-under l (sym (same-start l) ∙ e) where
   starts-under =
       start-forms (as_word (codes "const")) is_type_start (forms.word (codes "const") ∷ []) type_forms (looks-word (codes "const"))
       (start-forms (as_word (codes "type")) is_var_start (forms.word (codes "type") ∷ []) var_forms (looks-word (codes "type"))
-      (start-forms as_var_word is_side_start var_own side_forms looks-var-word
-      (start-forms as_side is_map_start side_own map_forms looks-side
-      (start-forms as_map is_nat_start map_own nat_forms looks-map-word
+      (start-forms as_var_word is_side_start var_words side_forms looks-var-word
+      (start-forms as_side is_map_start side_words map_forms looks-side
+      (start-forms as_map is_nat_start map_words nat_forms looks-map-word
       (start-forms (as_word (codes "nat")) is_block_start (forms.word (codes "nat") ∷ []) block_forms (looks-word (codes "nat"))
       (looks-word (codes "block")).under)))))
 

@@ -31,12 +31,12 @@ use Rattle.ft_tree.specs.meaning.Limits.{is_bound, is_count, is_expr, is_fact, i
 use Rattle.ft_tree.specs.meaning.Limits.{is_side, is_vrow, is_word, sort_of}
 use Rattle.ft_tree.specs.meaning.Line
 use Rattle.ft_tree.specs.meaning.Line.{Line, Piece, outer}
-use Rattle.ft_tree.specs.meaning.Lines.{body_lines, bound_pieces, brace_line, ended, exprs_line, exprs_pieces, fact_line, head_line}
+use Rattle.ft_tree.specs.meaning.Lines.{body_lines, bound_pieces, brace_line, terminated, exprs_line, exprs_pieces, fact_line, head_line}
 use Rattle.ft_tree.specs.meaning.Lines.{item_lines, kind_pieces, moment_text, names_pieces, nat_pieces, one_line, part_lines, plain_text}
 use Rattle.ft_tree.specs.meaning.Lines.{row_line, section_text, sign_pieces, table_head, table_lines, var_pieces, vector_head, vrow_line}
 use Rattle.ft_tree.specs.laws.Tokens.{Shape, kind_of}
 use Rattle.ft_read.specs.meaning.Lexeme.{as_word}
-use Rattle.ft_parse.specs.meaning.Language.{Language, either, nothing, token, ◌▷◌}
+use Rattle.ft_parse.specs.meaning.Language.{Language, alternative, nothing, token, ◌▷◌}
 use Rattle.ft_read.specs.meaning.Limit.{no_pass, counted, counted_at}
 use Rattle.ft_parse.specs.meaning.Room.{is_full, no_more_facts}
 use Rattle.ft_parse.specs.meaning.Expressions.{expression}
@@ -51,6 +51,7 @@ use Rattle.ft_parse.proofs.PartsWritten.{kind-written, names-written, one-of, pl
 use Rattle.ft_parse.proofs.PartsWritten.{skip-word, two-shapes, upper-written, value-written}
 use Rattle.ft_parse.proofs.Writes.{Writes, and_then, left, made, next, none, right, shaped, shapes, weaker}
 use Rattle.ft_read.specs.meaning.Choices.{as_map, as_side, as_start, as_var_word, as_moment}
+use Rattle.ft_tree.specs.laws.Chains.{three-hold, four-hold, five-hold}
 
 -- the shapes of lines
 unfoldable pub line_shapes : List Line → List Shape
@@ -84,8 +85,8 @@ ruleset layout = (lines-none, lines-cons, lines-append, lines-map, append_assoc,
 
 pub one-line : (pieces : List Piece) → line_shapes (one_line pieces) ≡ shapes pieces ++ sh (codes ";") ∷ []
 one-line pieces =
-    lines-cons (outer (ended pieces)) [] ∙ ap (λ (ss : List Shape). shapes (ended pieces) ++ ss) lines-none
-    ∙ append-nil (shapes (ended pieces)) ∙ two-shapes pieces (Line.token (codes ";") ∷ [])
+    lines-cons (outer (terminated pieces)) [] ∙ ap (λ (ss : List Shape). shapes (terminated pieces) ++ ss) lines-none
+    ∙ append-nil (shapes (terminated pieces)) ∙ two-shapes pieces (Line.token (codes ";") ∷ [])
 
 last-line : line_shapes (brace_line ∷ []) ≡ sh (codes "}") ∷ []
 last-line = lines-cons brace_line [] ∙ ap (λ (ss : List Shape). sh (codes "}") ∷ ss) lines-none
@@ -146,20 +147,20 @@ module _ (before : List Item) where
   maps = token as_map no_pass ▷ Items.table before
 
   abbrev late : Language Item
-  late = either (Items.clause before) (Items.block before)
+  late = alternative (Items.clause before) (Items.block before)
 
   as-constant : {at : ℕ} {ss : List Shape} {G : Item → Type 0} → Writes (Items.constant before) at ss G
       → Writes (Items.item_part before) at ss G
-  as-constant w = left (either typed (either worded (either sides (either maps late)))) w
+  as-constant w = left (alternative typed (alternative worded (alternative sides (alternative maps late)))) w
 
   as-type : {at : ℕ} {ss : List Shape} {G : Item → Type 0} → Writes typed at ss G → Writes (Items.item_part before) at ss G
-  as-type w = right (Items.constant before) (left (either worded (either sides (either maps late))) w)
+  as-type w = right (Items.constant before) (left (alternative worded (alternative sides (alternative maps late))) w)
 
   as-worded : {at : ℕ} {ss : List Shape} {G : Item → Type 0} → Writes worded at ss G → Writes (Items.item_part before) at ss G
-  as-worded w = right (Items.constant before) (right typed (left (either sides (either maps late)) w))
+  as-worded w = right (Items.constant before) (right typed (left (alternative sides (alternative maps late)) w))
 
   as-sides : {at : ℕ} {ss : List Shape} {G : Item → Type 0} → Writes sides at ss G → Writes (Items.item_part before) at ss G
-  as-sides w = right (Items.constant before) (right typed (right worded (left (either maps late) w)))
+  as-sides w = right (Items.constant before) (right typed (right worded (left (alternative maps late) w)))
 
   as-maps : {at : ℕ} {ss : List Shape} {G : Item → Type 0} → Writes maps at ss G → Writes (Items.item_part before) at ss G
   as-maps w = right (Items.constant before) (right typed (right worded (right sides (left late w))))
@@ -306,8 +307,8 @@ module _ (before : List Item) where
 
   abbrev held_or : SectionAt → Language Item
   held_or s =
-      either (Items.word (codes "held") ▷ λ _. Items.held before s.word)
-      (either (Items.word (codes "hyst") ▷ λ _. Items.hyst before s.word) (Items.table before s))
+      alternative (Items.word (codes "held") ▷ λ _. Items.held before s.word)
+      (alternative (Items.word (codes "hyst") ▷ λ _. Items.hyst before s.word) (Items.table before s))
 
   in-table : {at : ℕ} {ss : List Shape} {G : Item → Type 0} (s : SectionAt) → Writes (Items.table before s) at ss G
       → Writes (Items.sided before s) at ss G
@@ -385,7 +386,7 @@ module _ (before : List Item) where
       ≡ line_shapes (item_lines (item.Held side name cond hold)) = simp layout in
       shaped layed (in-side side sided
       (λ s is. right (Items.word (codes "var") ▷ λ _. Items.variable before (Items.inner_variable s.word))
-      (left (either (Items.word (codes "hyst") ▷ λ _. Items.hyst before s.word) (Items.table before s))
+      (left (alternative (Items.word (codes "hyst") ▷ λ _. Items.hyst before s.word) (Items.table before s))
       (skip-word (codes "held") refl (λ _.
       next {G = λ w. w.text ≡ name.text} (a-counted (is_full memories before) limit.Memories name.text room named) (λ w text.
       skip-sign (codes "(") refl (λ _. and_then {G = Same cond} (expr-written cond false refl lawful) (λ e same.
@@ -508,7 +509,7 @@ module _ (before : List Item) where
 
   abbrev inverted_or_vector : SectionAt → Language Item
   inverted_or_vector s =
-      either (Items.word (codes "inverted") ▷ λ _. Items.grid before (codes "terms") (item.Inverted s.word))
+      alternative (Items.word (codes "inverted") ▷ λ _. Items.grid before (codes "terms") (item.Inverted s.word))
       (token (as_word (codes "vector")) (counted_at (is_full tables before) limit.Tables s.place) ▷ λ _. Items.vector_grid s.word)
 
   normal-written : {at : ℕ} (s : SectionWord) (target : Word) (cells : List Expr) (rows : List Row)
@@ -666,15 +667,6 @@ module _ (before : List Item) where
       skip-sign (codes "}") refl
       (λ _. none (λ i. item.Block (bare-text w name text i) (same_takes i) (same_uses i) (same_facts i)))))))))))
 
-  three : (a b c : Bool) → (a && b && c) ≡ true → (a ≡ true) × (b ≡ true) × (c ≡ true)
-  three a b c h = let (x, r) = and_parts (a && b) c h in let (p, q) = and_parts a b x in (p, q, r)
-
-  four : (a b c d : Bool) → (a && b && c && d) ≡ true → (a ≡ true) × (b ≡ true) × (c ≡ true) × (d ≡ true)
-  four a b c d h = let (x, s) = and_parts (a && b && c) d h in let (p, q, r) = three a b c x in (p, q, r, s)
-
-  five : (a b c d e : Bool) → (a && b && c && d && e) ≡ true → (a ≡ true) × (b ≡ true) × (c ≡ true) × (d ≡ true) × (e ≡ true)
-  five a b c d e h = let (x, t) = and_parts (a && b && c && d) e h in let (p, q, r, s) = four a b c d x in (p, q, r, s, t)
-
   -- an item after these, where there is room for it and its facts
   pub item-written : {at : ℕ} (x : Item) → is_item x ≡ true → is_full (sort_of x) before ≡ false
       → sum_by facts_of before + facts_of x ≤ 300
@@ -683,33 +675,33 @@ module _ (before : List Item) where
       let (named, small) = and_parts (is_word name) (is_number value.value) h in
       constant-written name sign value room named small
   item-written (item.RangeType name lo hi) h room few =
-      let (named, low, high) = three (is_word name) (is_bound lo) (is_bound hi) h in
+      let (named, low, high) = three-hold (is_word name) (is_bound lo) (is_bound hi) h in
       range_type-written name lo hi room named low high
   item-written (item.EnumType name members) h room few =
-      let (named, sized, all) = three (is_word name) (is_count 64 (length members)) (list_all is_word members) h in
+      let (named, sized, all) = three-hold (is_word name) (is_count 64 (length members)) (list_all is_word members) h in
       enum_type-written name members room named sized all
   item-written (item.Variable words name of init) h room few =
-      let (named, lawful, begins) = three (is_word name) (is_kind of) (is_init init) h in
+      let (named, lawful, begins) = three-hold (is_word name) (is_kind of) (is_init init) h in
       variable-written words name of init room named lawful begins
   item-written (item.Held side name cond hold) h room few =
-      let (sided, named, lawful, held) = four (is_side side) (is_word name) (is_expr cond) (is_hold hold) h in
+      let (sided, named, lawful, held) = four-hold (is_side side) (is_word name) (is_expr cond) (is_hold hold) h in
       held-written side name cond hold room sided named lawful held
   item-written (item.Hyst side name term lo hi begins) h room few =
-      let (sided, named, lawful, low, high) = five (is_side side) (is_word name) (is_expr term) (is_bound lo) (is_bound hi) h in
+      let (sided, named, lawful, low, high) = five-hold (is_side side) (is_word name) (is_expr term) (is_bound lo) (is_bound hi) h in
       hyst-written side name term lo hi begins room sided named lawful low high
   item-written (item.Normal s target cells rows) h room few =
-      let (named, lawful, sized, all) = four (is_word target) (are_entries cells) (is_count 32 (length rows))
+      let (named, lawful, sized, all) = four-hold (is_word target) (are_entries cells) (is_count 32 (length rows))
       (list_all is_row rows) h in
       normal-written s target cells rows room named lawful sized all
   item-written (item.Inverted s target cells rows) h room few =
-      let (named, lawful, sized, all) = four (is_word target) (are_entries cells) (is_count 32 (length rows))
+      let (named, lawful, sized, all) = four-hold (is_word target) (are_entries cells) (is_count 32 (length rows))
       (list_all is_row rows) h in
       inverted-written s target cells rows room named lawful sized all
   item-written (item.Vector s cells rows) h room few =
-      let (lawful, sized, all) = three (are_entries cells) (is_count 32 (length rows)) (list_all is_vrow rows) h in
+      let (lawful, sized, all) = three-hold (are_entries cells) (is_count 32 (length rows)) (list_all is_vrow rows) h in
       vector-written s cells rows room lawful sized all
   item-written (item.Nat m cond) h room few = nat-written m cond room h
   item-written (item.Block name takes uses facts) h room few =
-      let (named, taken, used, some, all) = five (is_word name) (are_listed takes) (are_listed uses) (nat_le 1 (length facts))
+      let (named, taken, used, some, all) = five-hold (is_word name) (are_listed takes) (are_listed uses) (nat_le 1 (length facts))
       (list_all is_fact facts) h in
       block-written name takes uses facts room few named taken used some all

@@ -14,7 +14,7 @@ use Rattle.ft_tree.specs.meaning.Level.{left_of, op_level, rank, tighter}
 use Rattle.ft_base.specs.Names.{is_name}
 use Rattle.ft_tree.specs.meaning.Limits.{is_expr}
 use Rattle.ft_read.specs.meaning.Lexeme.{Lexeme, as_sign, as_word}
-use Rattle.ft_parse.specs.meaning.Language.{Language, Step, either, nothing, repeated, step, times, token, ◌▷◌}
+use Rattle.ft_parse.specs.meaning.Language.{Language, Step, alternative, nothing, repeated, step, times, token, ◌▷◌}
 use Rattle.ft_read.specs.meaning.Limit.{Passes, is_extra, is_late, opening, within}
 use Rattle.ft_parse.specs.meaning.Expressions.{Nest, atom, chain, comparison, conjunction, expression, group, history, layer, negated}
 use Rattle.ft_parse.specs.meaning.Expressions.{negation, nested, prefixed, product, right_of, signed, sum, unary, whole}
@@ -23,7 +23,7 @@ use Rattle.ft_read.specs.declared.parts.Entry.{Entry}
 use Rattle.ft_read.specs.declared.parts.Operator.{Operator}
 use Rattle.ft_parse.proofs.Fits.{Fit, fit-age, fit-expr, fit-group, fit-looser, fit-more, fit-name, fit-neg, fit-not, fit-num, fit-prev}
 use Rattle.ft_parse.proofs.Fits.{fit-truth, fit-two}
-use Rattle.ft_parse.proofs.RealTokens.{AllGood, Owns, Reads, first-none, good-parts, reads-any, reads-map, reads-name, reads-number}
+use Rattle.ft_parse.proofs.RealTokens.{AllGood, IncludesLexical, Reads, first-none, good-parts, reads-any, reads-map, reads-name, reads-number}
 use Rattle.ft_parse.proofs.RealTokens.{reads-or, so-none}
 
 -- within the first 1,000 tokens of the expression, and no entry too many
@@ -49,7 +49,7 @@ at-beyond false y e f = refl
 
 within-stands : (entry : Entry) (at : ℕ) (l : Lexeme) (s : Step) → within entry at l ≡ None → Stands entry at (s ∷ [])
 within-stands entry at l s e =
-    let (own, more) = first-none _ _ e in
+    let (lexical, more) = first-none _ _ e in
     let (extra, late) = first-none _ _ more in
     let soon = late-below at (entry.before + 1000) (so-none (is_late entry at) _ _ late) in (
       λ low. soon,
@@ -108,9 +108,9 @@ unfolding ◌▷◌
   all at steps b (a, us, vs, is, f, g) = rw is (joined at us vs a b f g)
 
 one-of : {A : Type 0} {entry : Entry} {L M : Language A} {P : ℕ → A → Type 0} → Spans entry L P → Spans entry M P
-    → Spans entry (either L M) P
+    → Spans entry (alternative L M) P
 one-of {A} {entry} {L} {M} {P} one other = record { all = all } where
-  all : (at : ℕ) (steps : List Step) (a : A) → either L M at steps a → AllGood steps → Stands entry at steps × P (length steps) a
+  all : (at : ℕ) (steps : List Step) (a : A) → alternative L M at steps a → AllGood steps → Stands entry at steps × P (length steps) a
   all at steps a (inl h) good = one.all at steps a h good
   all at steps a (inr h) good = other.all at steps a h good
 
@@ -185,8 +185,8 @@ inside-within entry = record { inside = λ at l e. e }
 inside-opening : (entry : Entry) (room : ℕ) → Inside entry (opening entry room)
 inside-opening entry room = record { inside = λ at l e. (first-none _ _ e).0 }
 
-owns-within : (entry : Entry) → Owns (within entry)
-owns-within entry = record { own = λ at l e. (first-none _ _ e).0 }
+within-includes : (entry : Entry) → IncludesLexical (within entry)
+within-includes entry = record { lexical = λ at l e. (first-none _ _ e).0 }
 
 some-room : (room : ℕ) → nat_eq room 0 ≡ false → 1 ≤ room
 some-room room e = grind (arith, nat_tests)
@@ -213,9 +213,9 @@ module _ (entry : Entry) (inner : Nest → Language Expr) (room : ℕ)
 
   reads-simple : Reads (within entry) as_simple (λ e. Fit Atom room 1 e)
   reads-simple =
-      reads-or (reads-map (λ n. expr.Num n.value n.place) (reads-number (owns-within entry))
+      reads-or (reads-map (λ n. expr.Num n.value n.place) (reads-number (within-includes entry))
       (λ n e. fit-num n.value n.place room e))
-      (reads-or (reads-map (λ w. expr.Name w.text w.place) (reads-name (owns-within entry)) (λ w e. fit-name w.text w.place room e))
+      (reads-or (reads-map (λ w. expr.Name w.text w.place) (reads-name (within-includes entry)) (λ w e. fit-name w.text w.place room e))
       (reads-or (reads-map (λ place. expr.Truth true place) (reads-any (as_word (codes "true")))
       (λ place _. fit-truth true place room))
       (reads-map (λ place. expr.Truth false place) (reads-any (as_word (codes "false"))) (λ place _. fit-truth false place room))))
@@ -242,7 +242,7 @@ module _ (entry : Entry) (inner : Nest → Language Expr) (room : ℕ)
       → Spans entry (history entry room w make) (Fit Atom room)
   in-history w make fits =
       a-token (as_word w) ◇ λ i place h. an-opening (as_sign (codes "(")) ◇ λ j _ g.
-      span-token (inside-within entry) (reads-name (owns-within entry)) ◇ λ k name f. a-token (as_sign (codes ")")) ◇ λ m _ e.
+      span-token (inside-within entry) (reads-name (within-includes entry)) ◇ λ k name f. a-token (as_sign (codes ")")) ◇ λ m _ e.
       done (fit-more (i + (j + (k + (m + 0)))) (omega (arith, h.0, g.0, f.0, e.0)) (fits name.text place f.1 g.1))
 
   in-group : Spans entry (group entry inner room) (Fit Atom room)

@@ -25,8 +25,8 @@ use Rattle.ft_tree.specs.meaning.Limits.{is_plain, is_row, is_same_sort, is_side
 use Rattle.ft_tree.specs.meaning.Limits.{types, variables}
 use Rattle.ft_base.specs.Names.{is_name}
 use Rattle.ft_read.specs.meaning.Lexeme.{Lexeme, as_end, as_name, as_sign, as_word}
-use Rattle.ft_parse.specs.meaning.Language.{Language, Plain, Step, either, lexemes, nothing, repeated, step, times, token, ◌▷◌}
-use Rattle.ft_read.specs.meaning.Limit.{Passes, no_pass, alone, counted, counted_at}
+use Rattle.ft_parse.specs.meaning.Language.{Language, Plain, Step, alternative, lexemes, nothing, repeated, step, times, token, ◌▷◌}
+use Rattle.ft_read.specs.meaning.Limit.{Passes, no_pass, lexical_passes, counted, counted_at}
 use Rattle.ft_parse.specs.meaning.Room.{is_full, no_more_facts}
 use Rattle.ft_parse.specs.meaning.Expressions.{expression}
 use Rattle.ft_parse.specs.meaning.Items
@@ -36,7 +36,7 @@ use Rattle.ft_read.specs.declared.parts.SectionAt.{SectionAt}
 use Rattle.ft_read.specs.declared.stop.LimitWord.{LimitWord}
 use Rattle.ft_read.specs.declared.stop.LimitWord.TheVariants as limit
 use Rattle.ft_parse.proofs.LawfulExpressions.{lawful-expression}
-use Rattle.ft_parse.proofs.RealTokens.{AllGood, Owns, Reads, first-none, good-parts, good-steps, reads-any, reads-map, reads-name}
+use Rattle.ft_parse.proofs.RealTokens.{AllGood, IncludesLexical, Reads, first-none, good-parts, good-steps, reads-any, reads-map, reads-name}
 use Rattle.ft_parse.proofs.RealTokens.{reads-number, reads-or, so-none}
 use Rattle.ft_read.specs.meaning.Choices.{as_map, as_side, as_start, as_var_word, as_moment, as_plain, as_truth}
 
@@ -69,9 +69,9 @@ unfolding ◌▷◌
   all : (at : ℕ) (steps : List Step) (b : B) → (L ▷ M) at steps b → AllGood steps → Q b
   all at steps b (a, us, vs, is, f, g) = rw is (joined at us vs a b f g)
 
-one-of : {A : Type 0} {L M : Language A} {P : A → Type 0} → Gives L P → Gives M P → Gives (either L M) P
+one-of : {A : Type 0} {L M : Language A} {P : A → Type 0} → Gives L P → Gives M P → Gives (alternative L M) P
 one-of {A} {L} {M} {P} one other = record { all = all } where
-  all : (at : ℕ) (steps : List Step) (a : A) → either L M at steps a → AllGood steps → P a
+  all : (at : ℕ) (steps : List Step) (a : A) → alternative L M at steps a → AllGood steps → P a
   all at steps a (inl h) good = one.all at steps a h good
   all at steps a (inr h) good = other.all at steps a h good
 
@@ -96,17 +96,17 @@ a-word w = a-token (as_word w)
 a-sign : (w : List ℕ) → Gives (Items.sign w) (λ a. Unit {0})
 a-sign w = a-token (as_sign w)
 
-owns-alone : Owns alone
-owns-alone = record { own = λ at l e. e }
+lexical-includes : IncludesLexical lexical_passes
+lexical-includes = record { lexical = λ at l e. e }
 
-owns-counted : (full : Bool) (which : LimitWord) → Owns (counted full which)
-owns-counted full which = record { own = λ at l e. (first-none _ _ e).0 }
+counted-includes : (full : Bool) (which : LimitWord) → IncludesLexical (counted full which)
+counted-includes full which = record { lexical = λ at l e. (first-none _ _ e).0 }
 
 a-name : Gives Items.name (λ w. is_word w ≡ true)
-a-name = gives-token (reads-name owns-alone)
+a-name = gives-token (reads-name lexical-includes)
 
 a-number : Gives Items.number (λ n. is_number n.value ≡ true)
-a-number = gives-token (reads-number owns-alone)
+a-number = gives-token (reads-number lexical-includes)
 
 -- a token for which there was room
 reads-room : {A : Type 0} (full : Bool) (which : LimitWord) (read : Lexeme → Option A)
@@ -115,7 +115,7 @@ reads-room {A} full which read = record { gives = λ at l a real p e. so-none fu
 
 reads-counted : (full : Bool) (which : LimitWord) → Reads (counted full which) as_name (λ w. (is_word w ≡ true) × (full ≡ false))
 reads-counted full which = record {
-  gives = λ at l w real p e. ((reads-name (owns-counted full which)).gives at l w real p e, so-none full _ _ (first-none _ _ p).1);
+  gives = λ at l w real p e. ((reads-name (counted-includes full which)).gives at l w real p e, so-none full _ _ (first-none _ _ p).1);
 }
 
 a-counted : (full : Bool) (which : LimitWord)
@@ -159,11 +159,11 @@ many-count : {A : Type 0} {test : A → Bool} (limit : ℕ) (xs : List A) → Ma
     → is_count limit (length xs) ≡ true
 many-count {A} {test} limit xs m = let (n, e, f) = m.last in count-room limit (length xs) n e f
 
-reads-plain : Reads alone as_plain (λ b. (is_bound b ≡ true) × (b.minus ≡ false))
+reads-plain : Reads lexical_passes as_plain (λ b. (is_bound b ≡ true) × (b.minus ≡ false))
 reads-plain =
-    reads-or (reads-map (λ n. record { minus = false; value = plain.Number n.value; place = n.place }) (reads-number owns-alone)
+    reads-or (reads-map (λ n. record { minus = false; value = plain.Number n.value; place = n.place }) (reads-number lexical-includes)
     (λ n e. (e, refl)))
-    (reads-map (λ w. record { minus = false; value = plain.Name w.text; place = w.place }) (reads-name owns-alone)
+    (reads-map (λ w. record { minus = false; value = plain.Name w.text; place = w.place }) (reads-name lexical-includes)
     (λ w e. (e, refl)))
 
 in-plain : Gives Items.plain_bound (λ b. (is_bound b ≡ true) × (b.minus ≡ false))

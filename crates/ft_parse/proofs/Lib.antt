@@ -1,6 +1,7 @@
 mod Answers
 mod ExprWritten
 mod ExpressionRules
+mod Faithful
 mod FaultLemmas
 mod Fits
 mod Forms
@@ -9,7 +10,7 @@ mod ItemRules
 mod ItemsWritten
 mod LawfulExpressions
 mod LawfulItems
-mod Lifts
+mod Loosening
 mod Many
 mod Marks
 mod NestedRules
@@ -20,14 +21,13 @@ mod Rises
 mod RoundTrip
 mod Rule
 mod SameLemmas
-mod Told
 mod Whole
 mod Writes
 pub mod BlockLemmas
 pub mod CountLemmas
-pub mod LevelLemmas
 pub mod ListLemmas
 pub mod MemoryLemmas
+pub mod PrecedenceLemmas
 pub mod SetLemmas
 pub mod Shorter
 pub mod TableLemmas

@@ -15,7 +15,7 @@ use Rattle.ft_base.specs.Reserved.{reserved-begins}
 use Rattle.ft_tree.specs.meaning.Limits.{is_number}
 use Rattle.ft_tree.specs.laws.Tokens.{kind_of}
 use Rattle.ft_read.specs.meaning.Lexeme.{Lexeme, as_sign, as_word}
-use Rattle.ft_read.specs.meaning.Limit.{Passes, own_pass}
+use Rattle.ft_read.specs.meaning.Limit.{Passes, lexical_pass}
 use Rattle.ft_parse.specs.meaning.Language.{token}
 use Rattle.ft_parse.proofs.Forms.{itself-bytes}
 use Rattle.ft_parse.proofs.Writes.{Writes, lexeme_at, one, shaped}
@@ -41,8 +41,8 @@ name-kind name h =
     let (letter, _) = and_parts (begins_by_letter name) (list_all is_name_byte name) word in
     rw (not-true _ free, letter) refl
 
-pub name-own : (name : List ℕ) → is_name name ≡ true → (place : Place) → own_pass (lexeme_at (kind.Name, name) place) ≡ None
-name-own name h place =
+pub name-lexical : (name : List ℕ) → is_name name ≡ true → (place : Place) → lexical_pass (lexeme_at (kind.Name, name) place) ≡ None
+name-lexical name h place =
     let bytes : Bool = begins_by_letter name && list_all is_name_byte name in
     let (short, free) = and_parts (bytes && nat_le (length name) 40) (not (is_reserved_word name)) h in
     let (_, few) = and_parts bytes (nat_le (length name) 40) short in
@@ -67,9 +67,9 @@ small value h = omega (arith, leb-true value 1000000000 h)
 pub value-back : (value : ℕ) → is_number value ≡ true → decimal_value (decimal value) ≡ value
 value-back value h = (decimal-is value (small value h)).value
 
-pub number-own : (value : ℕ) → is_number value ≡ true → (place : Place) → own_pass (lexeme_at (kind.Number, decimal value) place)
+pub number-lexical : (value : ℕ) → is_number value ≡ true → (place : Place) → lexical_pass (lexeme_at (kind.Number, decimal value) place)
     ≡ None
-number-own value h place = rw (value-back value h, h) refl
+number-lexical value h place = rw (value-back value h, h) refl
 
 digits-no_word : (bytes : List ℕ) → begins_by_digit bytes ≡ true → begins_by_letter bytes ≡ false
 digits-no_word [] h = refl

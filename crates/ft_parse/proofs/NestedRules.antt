@@ -4,13 +4,13 @@ use native.Mathlib.Omega.{arith}
 use Rattle.ft_base.specs.declared.place.Place.{Place}
 use Rattle.ft_tree.specs.declared.expr.Expr.{Expr}
 use Rattle.ft_tree.specs.declared.expr.Expr.TheVariants as expr
-use Rattle.ft_read.specs.meaning.Lexeme.{Lexeme, as_sign, as_word}
-use Rattle.ft_parse.specs.meaning.Language.{Language, Step, either, lexemes, nothing, repeated, step, times, token, ◌▷◌}
-use Rattle.ft_read.specs.meaning.Limit.{Passes, first_of, opening, pass, where_so, within}
+use Rattle.ft_read.specs.meaning.Lexeme.{Lexeme, as_sign, as_word, or_else}
+use Rattle.ft_parse.specs.meaning.Language.{Language, Step, alternative, lexemes, nothing, repeated, step, times, token, ◌▷◌}
+use Rattle.ft_read.specs.meaning.Limit.{Passes, opening, pass, where_so, within}
 use Rattle.ft_parse.specs.meaning.Expressions.{Nest, atom, chain, comparison, conjunction, disjunction, expression, group, layer, negated}
 use Rattle.ft_parse.specs.meaning.Expressions.{negation, nested, prefixed, product, right_of, signed, sum, unary, whole}
 use Rattle.ft_read.specs.meaning.Operators.{as_and, as_or, as_product, as_relation, as_sum, two}
-use Rattle.ft_read.specs.parsers.Combinators.{Outcome, Parser, Seen, can, give, go_on, read_token, seen, token_as, ◌▶◌}
+use Rattle.ft_read.specs.parsers.Combinators.{Outcome, Parser, ParserState, can, give, bind, read_token, state, token_as, ◌▶◌}
 use Rattle.ft_parse.specs.parsers.Expressions.{expression_by, expression_from, group_by, layer_by, nested_by, prefixed_by, refuse}
 use Rattle.ft_read.specs.declared.parts.Entry.{Entry}
 use Rattle.ft_read.specs.declared.parts.Operator.{Operator}
@@ -21,16 +21,18 @@ use Rattle.ft_parse.proofs.ExpressionRules.{apart-first, heads-disjunction, nega
 use Rattle.ft_parse.proofs.ExpressionRules.{or_forms, rule-disjunction, rule-map, rule-negation, rule-unary, some_sign, some_word}
 use Rattle.ft_parse.proofs.Forms.{any, apart, looks-sign, sign}
 use Rattle.ft_parse.proofs.Many.{Heads}
-use Rattle.ft_parse.proofs.Rises.{Rises, rises-either, rises-repeated, rises-same, rises-then}
+use Rattle.ft_parse.proofs.Rises.{Rises, rises-alternative, rises-repeated, rises-same, rises-then}
 use Rattle.ft_parse.proofs.Rule.{Rule, before, heads-then, heads-token, next, rule-give, rule-token}
-use Rattle.ft_parse.proofs.Told.{Begins, Takes, Told, at-end, at-first, first, first-append, told-then, told-token, told-wider, two-parts}
+use Rattle.ft_parse.proofs.Faithful.{Begins, Takes, Faithful, at-end, at-first, head-append, faithful-then, faithful-token, faithful-wider}
+use Rattle.ft_parse.proofs.Faithful.{two-parts}
 use Rattle.ft_parse.proofs.Whole.{Calms, Whole, calms-by-heads, expected, met, never}
+use Rattle.ft_read.specs.parsers.Cursor.{head}
 
 -- a token that always passes a limit: what would be read after it isn't
 module _ {A B : Type 0} (read : Lexeme → Option A) (passes : Passes) (M : A → Language B) (q : A → Parser B)
     (always : (at : ℕ) (l : Lexeme) → (p : Pass) × (passes at l ≡ Some p)) (l : Lexeme) (a : A) (reads : read l ≡ Some a)
     (some : (b : A) (at : ℕ) → Begins (M b) at []) where
-  stopped : (b : A) (s mid : Seen) → Takes (token read passes) (read_token read passes) s b mid → ⊥
+  stopped : (b : A) (s mid : ParserState) → Takes (token read passes) (read_token read passes) s b mid → ⊥
   stopped b s mid g =
       let (x, is, e) = g.means in
       let (p, passed) = always s.at x in
@@ -38,13 +40,13 @@ module _ {A B : Type 0} (read : Lexeme → Option A) (passes : Passes) (M : A �
       cc (passed, none)
 
   not-read : (at : ℕ) (steps : List Step) (b : B) (rest : List Lexeme) → (token read passes ▷ M) at steps b
-      → (read_token read passes ▶ q) (seen at (lexemes steps ++ rest)) ≡ expected at steps b rest
+      → (read_token read passes ▶ q) (state at (lexemes steps ++ rest)) ≡ expected at steps b rest
   unfolding ◌▷◌
   not-read at steps b rest (c, us, vs, is, (x, one, e), k) =
       let (p, passed) = always at x in
       rw (is, one) (by-pass at x vs c b rest p e (passes at x) passed) where
         by-pass : (at : ℕ) (x : Lexeme) (vs : List Step) (c : A) (b : B) (rest : List Lexeme) (p : Pass) → read x ≡ Some c → (o : Option Pass) → o ≡ Some p
-            → go_on q (token_as (read x) o at x (lexemes vs ++ rest)) ≡ met at x (lexemes vs ++ rest) o (expected (suc at) vs b rest)
+            → bind q (token_as (read x) o at x (lexemes vs ++ rest)) ≡ met at x (lexemes vs ++ rest) o (expected (suc at) vs b rest)
         by-pass at x vs c b rest p e o f = rw (e, f) refl
 
   some-first : (at : ℕ) → Begins (token read passes ▷ M) at []
@@ -55,8 +57,8 @@ module _ {A B : Type 0} (read : Lexeme → Option A) (passes : Passes) (M : A �
 
   pub rule-stopped : (after : Lexeme → Bool) → Rule (token read passes ▷ M) (read_token read passes ▶ q) after
   rule-stopped after = record {
-    told = λ s. told-then (token read passes) M (read_token read passes) q some s (read_token read passes s)
-        (told-token read passes (λ at. (step l (passes at l) ∷ [], a, (l, refl, reads))) s) (λ b mid g. absurd (stopped b s mid g));
+    faithful = λ s. faithful-then (token read passes) M (read_token read passes) q some s (read_token read passes s)
+        (faithful-token read passes (λ at. (step l (passes at l) ∷ [], a, (l, refl, reads))) s) (λ b mid g. absurd (stopped b s mid g));
     whole = λ at steps b rest h e. not-read at steps b rest h;
     some = some-first;
   }
@@ -64,7 +66,7 @@ module _ {A B : Type 0} (read : Lexeme → Option A) (passes : Passes) (M : A �
 -- nothing more may open
 no-room : (entry : Entry) (at : ℕ) (l : Lexeme) → (p : Pass) × (opening entry 0 at l ≡ Some p)
 no-room entry at l = by-pass (within entry at l) where
-  by-pass : (o : Option Pass) → (p : Pass) × (first_of o (where_so true limit.Nesting l.place) ≡ Some p)
+  by-pass : (o : Option Pass) → (p : Pass) × (or_else o (where_so true limit.Nesting l.place) ≡ Some p)
   by-pass (Some p) = (p, refl)
   by-pass None = (_, refl)
 
@@ -161,10 +163,10 @@ module _ (entry : Entry) (F : Nest → ℕ → Language Expr) (L : Nest → Lang
       (rises whole) (λ e. rises-same (token (as_sign (codes ")")) (within entry) ▷ λ _. nothing e)))
 
   rises-atom : Rises (λ n. atom entry (λ k. F k n) room) (atom entry L room)
-  rises-atom = rises-either _ _ _ _ (rises-same _) (rises-either _ _ _ _ (rises-same _) (rises-either _ _ _ _ (rises-same _) rises-group))
+  rises-atom = rises-alternative _ _ _ _ (rises-same _) (rises-alternative _ _ _ _ (rises-same _) (rises-alternative _ _ _ _ (rises-same _) rises-group))
 
   rises-unary : Rises (λ n. unary entry (λ k. F k n) room) (unary entry L room)
-  rises-unary = rises-either _ _ _ _ (rises-prefixed (as_sign (codes "-")) signed expr.Neg) rises-atom
+  rises-unary = rises-alternative _ _ _ _ (rises-prefixed (as_sign (codes "-")) signed expr.Neg) rises-atom
 
   module _ (ops : Lexeme → Option Operator) (G : ℕ → Language Expr) (M : Language Expr) (r : Rises G M) where
     rises-right : (left : Expr) → Rises (λ n. right_of entry ops (G n) left) (right_of entry ops M left)
@@ -186,13 +188,13 @@ module _ (entry : Entry) (F : Nest → ℕ → Language Expr) (L : Nest → Lang
 
   rises-comparison : Rises (λ n. comparison entry (λ k. F k n) room) (comparison entry L room)
   rises-comparison =
-      rises-then (λ n. sum entry (λ k. F k n) room) (sum entry L room) (λ left n. either (right_of entry as_relation (sum entry (λ k. F k n) room) left) (nothing left))
-      (λ left. either (right_of entry as_relation (sum entry L room) left) (nothing left)) rises-sum
-      (λ left. rises-either (λ n. right_of entry as_relation (sum entry (λ k. F k n) room) left) (λ n. nothing left) (right_of entry as_relation (sum entry L room) left) (nothing left)
+      rises-then (λ n. sum entry (λ k. F k n) room) (sum entry L room) (λ left n. alternative (right_of entry as_relation (sum entry (λ k. F k n) room) left) (nothing left))
+      (λ left. alternative (right_of entry as_relation (sum entry L room) left) (nothing left)) rises-sum
+      (λ left. rises-alternative (λ n. right_of entry as_relation (sum entry (λ k. F k n) room) left) (λ n. nothing left) (right_of entry as_relation (sum entry L room) left) (nothing left)
       (rises-right as_relation (λ n. sum entry (λ k. F k n) room) (sum entry L room) rises-sum left) (rises-same (nothing left)))
 
   rises-negation : Rises (λ n. negation entry (λ k. F k n) room) (negation entry L room)
-  rises-negation = rises-either _ _ _ _ (rises-prefixed (as_word (codes "not")) negated expr.Not) rises-comparison
+  rises-negation = rises-alternative _ _ _ _ (rises-prefixed (as_word (codes "not")) negated expr.Not) rises-comparison
 
   rises-conjunction : Rises (λ n. conjunction entry (λ k. F k n) room) (conjunction entry L room)
   rises-conjunction = rises-chain as_and (λ n. negation entry (λ k. F k n) room) (negation entry L room) rises-negation
@@ -272,10 +274,11 @@ deep-layer entry room nest at steps e (suc n, h) =
 
 -- the same texts, and parsers that agree
 pub rule-same : {A : Type 0} (K L : Language A) (p q : Parser A) (more : Lexeme → Bool) → ((at : ℕ) (steps : List Step) (a : A) → K at steps a → L at steps a)
-    → ((at : ℕ) (steps : List Step) (a : A) → L at steps a → K at steps a) → ((s : Seen) → q s ≡ p s) → Rule K p more → Rule L q more
+    → ((at : ℕ) (steps : List Step) (a : A) → L at steps a → K at steps a) → ((s : ParserState) → q s ≡ p s) → Rule K p more
+    → Rule L q more
 rule-same K L p q more to back same r = record {
-  told = λ s. rw (same s) (told-wider K L p q to s (λ ls f. same (seen s.at ls)) (p s) (r.told s));
-  whole = λ at steps a rest h e. same (seen at (lexemes steps ++ rest)) ∙ r.whole at steps a rest (back at steps a h) e;
+  faithful = λ s. rw (same s) (faithful-wider K L p q to s (λ ls f. same (state s.at ls)) (p s) (r.faithful s));
+  whole = λ at steps a rest h e. same (state at (lexemes steps ++ rest)) ∙ r.whole at steps a rest (back at steps a h) e;
   some = λ at. let (us, a, h) = r.some at in (us, a, to at us a h);
 }
 
@@ -345,22 +348,25 @@ some-expression is_beyond at =
 
 module _ (is_beyond : Bool) (at : ℕ) (l : Lexeme) (ls : List Lexeme) where
   -- on tokens that start as these an expression is read as one that stands here
-  same-reading : (o : Outcome Expr) (all : List Lexeme) → first all ≡ Some l → nested_by 64 (entry_here is_beyond at l) whole (seen at all) ≡ o → expression_by is_beyond (seen at all) ≡ o
+  same-reading : (o : Outcome Expr) (all : List Lexeme) → head all ≡ Some l
+      → nested_by 64 (entry_here is_beyond at l) whole (state at all) ≡ o → expression_by is_beyond (state at all) ≡ o
   unfolding expression_by
-  same-reading o all f e = at-first (λ us. nested_by 64 (entry_here is_beyond at l) whole (seen at us) ≡ o → expression_by is_beyond (seen at us) ≡ o) l (λ us g. g) all f e
+  same-reading o all f e =
+      at-first (λ us. nested_by 64 (entry_here is_beyond at l) whole (state at us) ≡ o → expression_by is_beyond (state at us) ≡ o) l (λ us g. g) all f e
 
-  agree : (us left more : List Lexeme) (o : Outcome Expr) → l ∷ ls ≡ us ++ left → first more ≡ first left
-      → nested_by 64 (entry_here is_beyond at l) whole (seen at (us ++ more)) ≡ o → expression_by is_beyond (seen at (us ++ more)) ≡ o
-  agree us left more o is f e = same-reading o (us ++ more) (first-append us more left f ∙ sym (ap first is)) e
+  agree : (us left more : List Lexeme) (o : Outcome Expr) → l ∷ ls ≡ us ++ left → head more ≡ head left
+      → nested_by 64 (entry_here is_beyond at l) whole (state at (us ++ more)) ≡ o → expression_by is_beyond (state at (us ++ more)) ≡ o
+  agree us left more o is f e = same-reading o (us ++ more) (head-append us more left f ∙ sym (ap head is)) e
 
   -- a text of an expression that goes on as the tokens here
   begins-here : (steps : List Step) (rest : List Lexeme) → l ∷ ls ≡ lexemes steps ++ rest → Begins (deep (entry_here is_beyond at l) 64 whole) at steps → Begins (expression is_beyond) at steps
   begins-here [] rest is h = some-expression is_beyond at
   begins-here (x ∷ us) rest is (more, e, h) = let same : x.lexeme ≡ l = cc is in (more, e, into is_beyond at l x (us ++ more) e same h)
 
-  pub expression-told : (o : Outcome Expr) → Told (deep (entry_here is_beyond at l) 64 whole) (nested_by 64 (entry_here is_beyond at l) whole) (seen at (l ∷ ls)) o
-      → Told (expression is_beyond) (expression_by is_beyond) (seen at (l ∷ ls)) o
-  expression-told (Ok e, left) g = record {
+  pub expression-faithful : (o : Outcome Expr)
+      → Faithful (deep (entry_here is_beyond at l) 64 whole) (nested_by 64 (entry_here is_beyond at l) whole) (state at (l ∷ ls)) o
+      → Faithful (expression is_beyond) (expression_by is_beyond) (state at (l ∷ ls)) o
+  expression-faithful (Ok e, left) g = record {
     steps = g.steps;
     plain = g.plain;
     is = g.is;
@@ -368,7 +374,7 @@ module _ (is_beyond : Bool) (at : ℕ) (l : Lexeme) (ls : List Lexeme) where
     means = from-here is_beyond at l g.steps e left.rest ls g.is g.means;
     again = λ more f. agree (lexemes g.steps) left.rest more _ g.is f (g.again more f);
   }
-  expression-told (Err Syntax, left) g = record {
+  expression-faithful (Err Syntax, left) g = record {
     steps = g.steps;
     plain = g.plain;
     is = g.is;
@@ -376,7 +382,7 @@ module _ (is_beyond : Bool) (at : ℕ) (l : Lexeme) (ls : List Lexeme) where
     begins = begins-here g.steps left.rest g.is g.begins;
     again = λ more f. agree (lexemes g.steps) left.rest more _ g.is f (g.again more f);
   }
-  expression-told (Err (Limit pass), left) g =
+  expression-faithful (Err (Limit pass), left) g =
       let whole-is : l ∷ ls ≡ lexemes (g.steps ++ step g.late (Some pass) ∷ []) ++ g.rest =
       g.is ∙ ap (λ (us : List Lexeme). lexemes g.steps ++ us) g.here ∙ sym (two-parts g.steps (step g.late (Some pass) ∷ []) g.rest) in
       record {
@@ -388,29 +394,33 @@ module _ (is_beyond : Bool) (at : ℕ) (l : Lexeme) (ls : List Lexeme) where
         is = g.is;
         at = g.at;
         begins = begins-here (g.steps ++ step g.late (Some pass) ∷ []) g.rest whole-is g.begins;
-        again = λ more. agree (lexemes g.steps) left.rest (g.late ∷ more) _ g.is (sym (ap first g.here)) (g.again more);
+        again = λ more. agree (lexemes g.steps) left.rest (g.late ∷ more) _ g.is (sym (ap head g.here)) (g.again more);
       }
-  expression-told (Err NoMemory, left) g = g
+  expression-faithful (Err NoMemory, left) g = g
 
 pub rule-expression : (is_beyond : Bool) → Rule (expression is_beyond) (expression_by is_beyond) (any or_forms)
 unfolding expression_by
-rule-expression is_beyond = record { told = λ s. told s.at s.rest; whole = whole-expression; some = some-expression is_beyond } where
-  told : (at : ℕ) (rest : List Lexeme) → Told (expression is_beyond) (expression_by is_beyond) (seen at rest) (expression_from is_beyond at rest)
-  told at [] = record {
-    steps = [];
-    plain = tt;
-    is = refl;
-    at = omega arith;
-    begins = some-expression is_beyond at;
-    again = at-end (λ us. expression_by is_beyond (seen at us) ≡ (Err Syntax, seen at us)) refl;
-  }
-  told at (l ∷ ls) = expression-told is_beyond at l ls (nested_by 64 (entry_here is_beyond at l) whole (seen at (l ∷ ls))) ((rule-deep 64 (entry_here is_beyond at l) whole).told (seen at (l ∷ ls)))
+rule-expression is_beyond =
+    record { faithful = λ s. faithful s.at s.rest; whole = whole-expression; some = some-expression is_beyond } where
+      faithful : (at : ℕ) (rest : List Lexeme)
+          → Faithful (expression is_beyond) (expression_by is_beyond) (state at rest) (expression_from is_beyond at rest)
+      faithful at [] = record {
+        steps = [];
+        plain = tt;
+        is = refl;
+        at = omega arith;
+        begins = some-expression is_beyond at;
+        again = at-end (λ us. expression_by is_beyond (state at us) ≡ (Err Syntax, state at us)) refl;
+      }
+      faithful at (l ∷ ls) =
+          expression-faithful is_beyond at l ls (nested_by 64 (entry_here is_beyond at l) whole (state at (l ∷ ls))) ((rule-deep 64 (entry_here is_beyond at l) whole).faithful (state at (l ∷ ls)))
 
-  whole-expression : Whole (expression is_beyond) (expression_by is_beyond) (any or_forms)
-  whole-expression at steps e rest (x, more, n, is, h) f =
-      let reading : expression_by is_beyond (seen at (lexemes steps ++ rest)) ≡ nested_by 64 (entry_here is_beyond at x.lexeme) whole (seen at (lexemes steps ++ rest)) =
-      rw is refl in
-      reading ∙ (rule-deep 64 (entry_here is_beyond at x.lexeme) whole).whole at steps e rest (n, h) f
+      whole-expression : Whole (expression is_beyond) (expression_by is_beyond) (any or_forms)
+      whole-expression at steps e rest (x, more, n, is, h) f =
+          let reading : expression_by is_beyond (state at (lexemes steps ++ rest))
+          ≡ nested_by 64 (entry_here is_beyond at x.lexeme) whole (state at (lexemes steps ++ rest)) =
+          rw is refl in
+          reading ∙ (rule-deep 64 (entry_here is_beyond at x.lexeme) whole).whole at steps e rest (n, h) f
 
 pub heads-expression : (is_beyond : Bool) → Heads (expression is_beyond) (any negation_forms)
 heads-expression is_beyond at steps e (x, more, n, is, h) =

@@ -17,7 +17,7 @@ use Rattle.ft_tree.specs.meaning.Bare.{IsSameTree}
 use Rattle.ft_tree.specs.meaning.Canonical.{canonical}
 use Rattle.ft_tree.specs.laws.Tokens.{CanonicalTokens}
 use Rattle.ft_parse.proofs.RoundTrip.{bare_parts, round-trip}
-use Rattle.ft_read.specs.parsers.Combinators.{Outcome, Seen, Stops, seen}
+use Rattle.ft_read.specs.parsers.Combinators.{Outcome, ParserState, Stops, state}
 use Rattle.ft_parse.specs.parsers.Items.{set_by}
 use Rattle.ft_parse.specs.declared.parts.Parts.{Parts}
 use Rattle.ft_parse.specs.declared.fault.ParseFault.{ParseFault}
@@ -51,28 +51,31 @@ module _ (text : List ℕ) (tokens : List Token) (are : IsTokens text tokens) wh
   abbrev ls : List Lexeme
   ls = lexemes_of text tokens
 
-  said : (o : Outcome Parts) → set_by (seen 0 ls) ≡ o → Says ls o
+  said : (o : Outcome Parts) → set_by (state 0 ls) ≡ o → Says ls o
   said o e = subst (Says ls) e (says ls (closed-lexemes text tokens are))
 
   here : AreLexemes text ls
   here = (tokens, are, refl)
 
-  pub read-lawful : (parts : Parts) (left : Seen) → set_by (seen 0 ls) ≡ (Ok parts, left) → IsSet parts.name parts.period parts.splits parts.depth parts.items
+  pub read-lawful : (parts : Parts) (left : ParserState) → set_by (state 0 ls) ≡ (Ok parts, left)
+      → IsSet parts.name parts.period parts.splits parts.depth parts.items
   read-lawful parts left e =
       let (steps, same, plain, h) = said (Ok parts, left) e in
       lawful-parts text steps parts (subst (AreLexemes text) (sym same) here) h plain
 
-  pub read-spelled : (parts : Parts) (left : Seen) (tree : Tree) → set_by (seen 0 ls) ≡ (Ok parts, left) → parts_of tree ≡ parts → Spells text tree
+  pub read-spelled : (parts : Parts) (left : ParserState) (tree : Tree) → set_by (state 0 ls) ≡ (Ok parts, left) → parts_of tree ≡ parts
+      → Spells text tree
   read-spelled parts left tree e is =
       let (steps, same, plain, h) = said (Ok parts, left) e in
       record { steps = steps; are = subst (AreLexemes text) (sym same) here; grammar = subst (set 0 steps) (sym is) h; plain = plain }
 
-  pub ahead : (stop : Stop) (left : Seen) → Stops stop left (set_by (seen 0 ls)) → IsAhead stop left.rest
+  pub ahead : (stop : Stop) (left : ParserState) → Stops stop left (set_by (state 0 ls)) → IsAhead stop left.rest
   ahead Syntax left e = let (bad, rest, is, front, whole, begins, ends) = said (Err Syntax, left) e in subst (IsAhead Syntax) (sym is) tt
   ahead (Limit pass) left e = tt
   ahead NoMemory left e = tt
 
-  pub read-fault : (stop : Stop) (left : Seen) (f : ParseFault) → Stops stop left (set_by (seen 0 ls)) → IsFaultOf stop left.rest f → IsFault text f
+  pub read-fault : (stop : Stop) (left : ParserState) (f : ParseFault) → Stops stop left (set_by (state 0 ls))
+      → IsFaultOf stop left.rest f → IsFault text f
   read-fault Syntax left f e is =
       let (bad, rest, there, front, whole, begins, ends) = said (Err Syntax, left) e in
       let place : f ≡ fault.Syntax bad.place = subst (λ (us : List Lexeme). IsFaultOf Syntax us f) there is in
@@ -85,15 +88,17 @@ module _ (text : List ℕ) (tokens : List Token) (are : IsTokens text tokens) wh
 
   module _ (sole : (others : List Token) → IsTokens text others → others ≡ tokens) where
     -- parts that the text spells within the limits are what is read
-    parts-whole : (steps : List Step) (parts : Parts) → AreLexemes text (lexemes steps) → set 0 steps parts → Plain steps → (at : ℕ) × (set_by (seen 0 ls) ≡ (Ok parts, seen at []))
+    parts-whole : (steps : List Step) (parts : Parts) → AreLexemes text (lexemes steps) → set 0 steps parts → Plain steps
+        → (at : ℕ) × (set_by (state 0 ls) ≡ (Ok parts, state at []))
     parts-whole steps parts (others, others_are, same) grammar plain =
         let lexed : lexemes steps ≡ ls = sym same ∙ ap (lexemes_of text) (sole others others_are) in
-        subst (λ (us : List Lexeme). (at : ℕ) × (set_by (seen 0 us) ≡ (Ok parts, seen at []))) lexed (only steps parts grammar plain)
+        subst (λ (us : List Lexeme). (at : ℕ) × (set_by (state 0 us) ≡ (Ok parts, state at []))) lexed (only steps parts grammar plain)
 
-    read-whole : (tree : Tree) → Spells text tree → (at : ℕ) × (set_by (seen 0 ls) ≡ (Ok (parts_of tree), seen at []))
+    read-whole : (tree : Tree) → Spells text tree → (at : ℕ) × (set_by (state 0 ls) ≡ (Ok (parts_of tree), state at []))
     read-whole tree s = parts-whole s.steps (parts_of tree) s.are s.grammar s.plain
 
-    pub read-only : (parts : Parts) (left : Seen) (read tree : Tree) → set_by (seen 0 ls) ≡ (Ok parts, left) → parts_of read ≡ parts → Spells text tree → read ≡ tree
+    pub read-only : (parts : Parts) (left : ParserState) (read tree : Tree) → set_by (state 0 ls) ≡ (Ok parts, left)
+        → parts_of read ≡ parts → Spells text tree → read ≡ tree
     read-only parts left read tree e is s =
         let (at, whole) = read-whole tree s in
         let same = ap (λ (o : Outcome Parts). o.0) (sym e ∙ whole) in
@@ -109,7 +114,8 @@ module _ (text : List ℕ) (tokens : List Token) (are : IsTokens text tokens) wh
         let parts_same : parts_of tree ≡ parts_of other = cc same in
         same-tree tree other parts_same
 
-    pub read-unless : (stop : Stop) (left : Seen) (f : ParseFault) (tree : Tree) → Stops stop left (set_by (seen 0 ls)) → IsFaultOf stop left.rest f → Spells text tree → Reads (Err f) tree
+    pub read-unless : (stop : Stop) (left : ParserState) (f : ParseFault) (tree : Tree) → Stops stop left (set_by (state 0 ls))
+        → IsFaultOf stop left.rest f → Spells text tree → Reads (Err f) tree
     read-unless Syntax left f tree e is s =
         let (at, whole) = read-whole tree s in
         let same = ap (λ (o : Outcome Parts). o.0) (sym e ∙ whole) in
@@ -121,7 +127,8 @@ module _ (text : List ℕ) (tokens : List Token) (are : IsTokens text tokens) wh
     read-unless NoMemory left f tree e is s = subst (λ (g : ParseFault). Reads (Err g) tree) (sym is) tt
 
     -- the canonical text of a tree is read as that tree, but for places
-    pub read-same : CanonicalTokens → (parts : Parts) (left : Seen) (read tree : Tree) → set_by (seen 0 ls) ≡ (Ok parts, left) → parts_of read ≡ parts → text ≡ canonical tree
+    pub read-same : CanonicalTokens → (parts : Parts) (left : ParserState) (read tree : Tree) → set_by (state 0 ls) ≡ (Ok parts, left)
+        → parts_of read ≡ parts → text ≡ canonical tree
         → IsSameTree read tree
     read-same law parts left read tree e is canonical_is =
         let (steps, written, are_lexemes, grammar, plain, same) = round-trip law tree in
@@ -131,14 +138,16 @@ module _ (text : List ℕ) (tokens : List Token) (are : IsTokens text tokens) wh
         ap bare_parts (is ∙ parts_same) ∙ same
 
     -- nothing stops the reading of a canonical text
-    no-stop : CanonicalTokens → (stop : Stop) (left : Seen) (tree : Tree) → set_by (seen 0 ls) ≡ (Err stop, left) → text ≡ canonical tree → ⊥
+    no-stop : CanonicalTokens → (stop : Stop) (left : ParserState) (tree : Tree) → set_by (state 0 ls) ≡ (Err stop, left)
+        → text ≡ canonical tree → ⊥
     no-stop law stop left tree e canonical_is =
         let (steps, written, are_lexemes, grammar, plain, same) = round-trip law tree in
         let (at, whole) = parts-whole steps written (subst (λ (t : List ℕ). AreLexemes t (lexemes steps)) (sym canonical_is) are_lexemes) grammar plain in
         let answers = ap (λ (o : Outcome Parts). o.0) (sym e ∙ whole) in
         cc answers
 
-    pub same-unless : CanonicalTokens → (stop : Stop) (left : Seen) (f : ParseFault) (tree : Tree) → Stops stop left (set_by (seen 0 ls)) → IsFaultOf stop left.rest f → text ≡ canonical tree
+    pub same-unless : CanonicalTokens → (stop : Stop) (left : ParserState) (f : ParseFault) (tree : Tree)
+        → Stops stop left (set_by (state 0 ls)) → IsFaultOf stop left.rest f → text ≡ canonical tree
         → ReadsSame (Err f) tree
     same-unless law Syntax left f tree e is canonical_is = absurd (no-stop law Syntax left tree e canonical_is)
     same-unless law (Limit pass) left f tree e is canonical_is = absurd (no-stop law (Limit pass) left tree e canonical_is)

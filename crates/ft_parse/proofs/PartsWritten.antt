@@ -24,14 +24,14 @@ use Rattle.ft_tree.specs.meaning.Line.{Line, Piece}
 use Rattle.ft_tree.specs.meaning.Lines.{bound_pieces, exprs_pieces, kind_pieces, names_pieces, plain_text, sign_pieces, word_pieces}
 use Rattle.ft_tree.specs.laws.Tokens.{Shape, kind_of, piece_shape}
 use Rattle.ft_read.specs.meaning.Lexeme.{as_name}
-use Rattle.ft_parse.specs.meaning.Language.{Language, either, nothing, token, ◌▷◌}
+use Rattle.ft_parse.specs.meaning.Language.{Language, alternative, nothing, token, ◌▷◌}
 use Rattle.ft_read.specs.meaning.Limit.{no_pass, counted}
 use Rattle.ft_parse.specs.meaning.Room.{is_full}
 use Rattle.ft_parse.specs.meaning.Items
 use Rattle.ft_tree.specs.meaning.Bare.{bare_bound, bare_expr, bare_kind, bare_word, start}
 use Rattle.ft_read.specs.declared.stop.LimitWord.{LimitWord}
 use Rattle.ft_parse.proofs.ExprWritten.{Same, expr-written}
-use Rattle.ft_parse.proofs.Marks.{mark, name-kind, name-own, number-kind, number-own, reads-sign, reads-word, value-back}
+use Rattle.ft_parse.proofs.Marks.{mark, name-kind, name-lexical, number-kind, number-lexical, reads-sign, reads-word, value-back}
 use Rattle.ft_parse.proofs.Writes.{Writes, and_then, left, made, many, next, none, right, shaped, shapes, weaker}
 use Rattle.ft_read.specs.meaning.Choices.{as_truth}
 
@@ -48,7 +48,7 @@ a-sign w is = mark w token_kind.Sign is (λ place. (place, reads-sign w place, r
 pub a-name : {at : ℕ} (name : List ℕ) → is_name name ≡ true → Writes Items.name at (sh name ∷ []) (λ w. w.text ≡ name)
 a-name name h =
     mark name token_kind.Name (name-kind name h)
-    (λ place. (record { text = name; place = place }, refl, name-own name h place, refl))
+    (λ place. (record { text = name; place = place }, refl, name-lexical name h place, refl))
 
 -- a reserved word or sign, and what follows it
 pub skip-word : {B : Type 0} {M : Place → Language B} {at : ℕ} {ys : List Shape} {H : B → Type 0} (w : List ℕ)
@@ -66,7 +66,7 @@ pub a-counted : {at : ℕ} (is_full : Bool) (which : LimitWord) (name : List ℕ
     → Writes (token as_name (counted is_full which)) at (sh name ∷ []) (λ w. w.text ≡ name)
 a-counted is_full which name free h =
     mark name token_kind.Name (name-kind name h)
-    (λ place. (record { text = name; place = place }, refl, rw (name-own name h place, free) refl, refl))
+    (λ place. (record { text = name; place = place }, refl, rw (name-lexical name h place, free) refl, refl))
 
 pub a-number : {at : ℕ} (value : ℕ) → is_number value ≡ true
     → Writes Items.number at (sh (decimal value) ∷ []) (λ n. n.value ≡ value)
@@ -75,7 +75,7 @@ a-number value h = mark (decimal value) token_kind.Number (number-kind value h)
       record { value = value; place = place },
       ap (λ (x : ℕ). Some (record { value = x; place = place }))
           (value-back value h),
-      number-own value h place,
+      number-lexical value h place,
       refl,
     ))
 
@@ -103,11 +103,11 @@ plain-written (plain.Number value) h = mark (decimal value) token_kind.Number (n
     (λ place. (
       record { minus = false; value = plain.Number value; place = place },
       ap (λ (x : ℕ). Some (record { minus = false; value = plain.Number x; place = place })) (value-back value h),
-      number-own value h place,
+      number-lexical value h place,
       (refl, refl),
     ))
 plain-written (plain.Name name) h = mark name token_kind.Name (name-kind name h)
-    (λ place. (record { minus = false; value = plain.Name name; place = place }, refl, name-own name h place, (refl, refl)))
+    (λ place. (record { minus = false; value = plain.Name name; place = place }, refl, name-lexical name h place, (refl, refl)))
 plain-written (plain.Truth value) h = absurd (true≢false (sym h))
 
 -- the pieces of a bound
@@ -178,7 +178,7 @@ range-of lo hi false (plain.Number value) e f h k =
     (λ m same. λ i. kind.Range (record { minus = (is.0 ∙ sym e) i; value = (is.1 ∙ sym f) i; place = start }) (same i)))))
 range-of lo hi false (plain.Name name) e f h k =
     right (Items.word (codes "bool") ▷ λ _. nothing kind.Bool)
-    (left (either Items.minus_bound Items.number_bound ▷ Items.range_after)
+    (left (alternative Items.minus_bound Items.number_bound ▷ Items.range_after)
     (next {G = λ w. w.text ≡ name} (a-name name h)
     (λ w text. left (nothing (kind.Named w)) (made {G = λ m. bare_bound m ≡ bare_bound hi}
     (kind.Range (record { minus = false; value = plain.Name w.text; place = w.place })) (upper-written hi k)
@@ -193,12 +193,12 @@ kind-written (kind.Range lo hi) h =
     (range-of lo hi lo.minus lo.value refl refl low high)
 kind-written (kind.Named word) h =
     right (Items.word (codes "bool") ▷ λ _. nothing kind.Bool)
-    (left (either Items.minus_bound Items.number_bound ▷ Items.range_after)
+    (left (alternative Items.minus_bound Items.number_bound ▷ Items.range_after)
     (next {G = λ w. w.text ≡ word.text} (a-name word.text h) (λ w text.
     right (Items.upper ▷ λ hi. nothing (kind.Range (record { minus = false; value = plain.Name w.text; place = w.place }) hi))
     (none (λ i. kind.Named (record { text = text i; place = start }))))))
 kind-written kind.Bool h =
-    left (either (Items.name ▷ Items.kind_of_name) (either Items.minus_bound Items.number_bound ▷ Items.range_after))
+    left (alternative (Items.name ▷ Items.kind_of_name) (alternative Items.minus_bound Items.number_bound ▷ Items.range_after))
     (next {G = λ _. Unit {0}} (a-word (codes "bool") refl) (λ _ _. none refl))
 
 -- lists

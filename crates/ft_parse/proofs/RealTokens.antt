@@ -14,10 +14,9 @@ use Rattle.ft_tree.specs.declared.item.Number.{Number}
 use Rattle.ft_tree.specs.declared.item.Word.{Word}
 use Rattle.ft_tree.specs.meaning.Limits.{is_number}
 use Rattle.ft_base.specs.Digits.{decimal_value}
-use Rattle.ft_read.specs.meaning.Lexeme.{Lexeme, as_name, as_number, lexemes_of}
-use Rattle.ft_read.specs.meaning.Limit.{Passes, first_of, is_great_number, is_long_name, is_name_kind, is_number_kind, own_pass, where_so}
+use Rattle.ft_read.specs.meaning.Lexeme.{Lexeme, as_name, as_number, lexemes_of, or_else}
+use Rattle.ft_read.specs.meaning.Limit.{Passes, is_great_number, is_long_name, is_name_kind, is_number_kind, lexical_pass, where_so}
 use Rattle.ft_parse.specs.meaning.Language.{Plain, Step, lexemes}
-use Rattle.ft_read.specs.meaning.Operators.{or_else}
 use Rattle.ft_parse.specs.meaning.Parse.{AreLexemes}
 use Rattle.ft_read.specs.declared.stop.LimitWord.{LimitWord}
 use Rattle.ft_read.specs.declared.stop.Pass.{Pass}
@@ -100,7 +99,7 @@ pub good-parts : (us vs : List Step) → AllGood (us ++ vs) → AllGood us × Al
 good-parts [] vs h = (tt, h)
 good-parts (u ∷ us) vs (r, p, h) = let (x, y) = good-parts us vs h in ((r, p, x), y)
 
-pub first-none : (o q : Option Pass) → first_of o q ≡ None → (o ≡ None) × (q ≡ None)
+pub first-none : (o q : Option Pass) → or_else o q ≡ None → (o ≡ None) × (q ≡ None)
 first-none (Some p) q e = cc e
 first-none None q e = (refl, e)
 
@@ -113,9 +112,9 @@ kept true true e f = refl
 kept true false e f = cc e
 kept false c e f = cc f
 
-pub own-name : (l : Lexeme) → IsReal l → own_pass l ≡ None → is_name_kind l.kind ≡ true → is_name l.text ≡ true
-own-name l real own e =
-    let (long, great) = first-none _ _ own in
+pub lexical-name : (l : Lexeme) → IsReal l → lexical_pass l ≡ None → is_name_kind l.kind ≡ true → is_name l.text ≡ true
+lexical-name l real lexical e =
+    let (long, great) = first-none _ _ lexical in
     let (start, free) =
     and_parts (begins_by_letter l.text && list_all is_name_byte l.text) (not (is_reserved_word l.text)) (real e) in
     let short = kept (is_name_kind l.kind) (nat_le (length l.text) 40) (so-none (is_long_name l) _ _ long) e in
@@ -124,18 +123,18 @@ own-name l real own e =
       joined : (x y z : Bool) → x ≡ true → y ≡ true → z ≡ true → (x && y && z) ≡ true
       joined x y z e f g = rw (e, f, g) refl
 
-pub own-number : (l : Lexeme) → own_pass l ≡ None → is_number_kind l.kind ≡ true → is_number (decimal_value l.text) ≡ true
-own-number l own e =
-    let (long, great) = first-none _ _ own in
+pub lexical-number : (l : Lexeme) → lexical_pass l ≡ None → is_number_kind l.kind ≡ true → is_number (decimal_value l.text) ≡ true
+lexical-number l lexical e =
+    let (long, great) = first-none _ _ lexical in
     kept (is_number_kind l.kind) (is_number (decimal_value l.text)) (so-none (is_great_number l) _ _ great) e
 
 -- what is read of a token that passes no such limit
 pub record Reads {A : Type 0} (passes : Passes) (read : Lexeme → Option A) (P : A → Type 0) : Type 0 where
   pub gives : (at : ℕ) (l : Lexeme) (a : A) → IsReal l → passes at l ≡ None → read l ≡ Some a → P a
 
--- a token that passes none of these limits passes none of its own
-pub record Owns (passes : Passes) : Type 0 where
-  pub own : (at : ℕ) (l : Lexeme) → passes at l ≡ None → own_pass l ≡ None
+-- a token that passes none of these limits passes none of those of names and numbers
+pub record IncludesLexical (passes : Passes) : Type 0 where
+  pub lexical : (at : ℕ) (l : Lexeme) → passes at l ≡ None → lexical_pass l ≡ None
 
 pub reads-any : {A : Type 0} {passes : Passes} (read : Lexeme → Option A) → Reads passes read (λ a. Unit {0})
 reads-any {A} {passes} read = record { gives = λ at l a real p e. tt }
@@ -163,20 +162,20 @@ number-kind kind.Sign text place n e = cc e
 number-kind kind.End text place n e = cc e
 number-kind kind.Bad text place n e = cc e
 
-pub reads-name : {passes : Passes} → Owns passes → Reads passes as_name (λ w. is_name w.text ≡ true)
-reads-name {passes} owns =
+pub reads-name : {passes : Passes} → IncludesLexical passes → Reads passes as_name (λ w. is_name w.text ≡ true)
+reads-name {passes} includes =
     record {
       gives = λ at l w real p e.
           let (named, same) = name-kind l.kind l.text l.place w e in
-          rw same (own-name l real (owns.own at l p) named);
+          rw same (lexical-name l real (includes.lexical at l p) named);
     }
 
-pub reads-number : {passes : Passes} → Owns passes → Reads passes as_number (λ n. is_number n.value ≡ true)
-reads-number {passes} owns =
+pub reads-number : {passes : Passes} → IncludesLexical passes → Reads passes as_number (λ n. is_number n.value ≡ true)
+reads-number {passes} includes =
     record {
       gives = λ at l n real p e.
           let (named, same) = number-kind l.kind l.text l.place n e in
-          rw same (own-number l (owns.own at l p) named);
+          rw same (lexical-number l (includes.lexical at l p) named);
     }
 
 pub reads-or : {A : Type 0} {passes : Passes} {f g : Lexeme → Option A} {P : A → Type 0} → Reads passes f P → Reads passes g P

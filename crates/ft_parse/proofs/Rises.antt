@@ -1,7 +1,7 @@
 -- Parts of the grammar that grow: a union of steps, each within the next ones.
 use Rattle.std.proofs.Common.{◌≡◌, inl, inr, ℕ, zero, suc, ◌+◌, List, length}
 use native.Mathlib.Omega.{arith}
-use Rattle.ft_parse.specs.meaning.Language.{Language, Step, either, nothing, repeated, times, ◌▷◌}
+use Rattle.ft_parse.specs.meaning.Language.{Language, Step, alternative, nothing, repeated, times, ◌▷◌}
 
 pub record Rises {A : Type 0} (F : ℕ → Language A) (L : Language A) : Type 0 where
   pub up : (n m at : ℕ) (steps : List Step) (a : A) → F n at steps a → F (n + m) at steps a
@@ -35,19 +35,20 @@ module _ {A B : Type 0} (F : ℕ → Language A) (L : Language A) (G : A → ℕ
   }
 
 module _ {A : Type 0} (F G : ℕ → Language A) (L M : Language A) where
-  pub rises-either : Rises F L → Rises G M → Rises (λ n. either (F n) (G n)) (either L M)
-  rises-either r t = record { up = up-either; bound = bound-either; back = back-either } where
-    up-either : (n m at : ℕ) (steps : List Step) (a : A) → either (F n) (G n) at steps a → either (F (n + m)) (G (n + m)) at steps a
-    up-either n m at steps a (inl h) = inl (r.up n m at steps a h)
-    up-either n m at steps a (inr h) = inr (t.up n m at steps a h)
+  pub rises-alternative : Rises F L → Rises G M → Rises (λ n. alternative (F n) (G n)) (alternative L M)
+  rises-alternative r t = record { up = up-alternative; bound = bound-alternative; back = back-alternative } where
+    up-alternative : (n m at : ℕ) (steps : List Step) (a : A) → alternative (F n) (G n) at steps a
+        → alternative (F (n + m)) (G (n + m)) at steps a
+    up-alternative n m at steps a (inl h) = inl (r.up n m at steps a h)
+    up-alternative n m at steps a (inr h) = inr (t.up n m at steps a h)
 
-    bound-either : (at : ℕ) (steps : List Step) (a : A) → either L M at steps a → (n : ℕ) × either (F n) (G n) at steps a
-    bound-either at steps a (inl h) = let (n, x) = r.bound at steps a h in (n, inl x)
-    bound-either at steps a (inr h) = let (n, x) = t.bound at steps a h in (n, inr x)
+    bound-alternative : (at : ℕ) (steps : List Step) (a : A) → alternative L M at steps a → (n : ℕ) × alternative (F n) (G n) at steps a
+    bound-alternative at steps a (inl h) = let (n, x) = r.bound at steps a h in (n, inl x)
+    bound-alternative at steps a (inr h) = let (n, x) = t.bound at steps a h in (n, inr x)
 
-    back-either : (n at : ℕ) (steps : List Step) (a : A) → either (F n) (G n) at steps a → either L M at steps a
-    back-either n at steps a (inl h) = inl (r.back n at steps a h)
-    back-either n at steps a (inr h) = inr (t.back n at steps a h)
+    back-alternative : (n at : ℕ) (steps : List Step) (a : A) → alternative (F n) (G n) at steps a → alternative L M at steps a
+    back-alternative n at steps a (inl h) = inl (r.back n at steps a h)
+    back-alternative n at steps a (inr h) = inr (t.back n at steps a h)
 
 module _ {A : Type 0} (F : A → ℕ → Language A) (part : A → Language A) (r : (a : A) → Rises (F a) (part a)) where
   rises-times : (k : ℕ) (a : A) → Rises (λ n. times k (λ b. F b n) a) (times k part a)

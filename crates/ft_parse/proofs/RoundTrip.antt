@@ -92,11 +92,11 @@ room-for : (whole front rest : List Item) (x : Item) (s : List Item)
 room-for whole front rest x s counts is good =
     let sort : Sort = sort_of x in
     let one_of : Item → ℕ = λ y. cond (is_same_sort sort (sort_of y)) 1 0 in
-    let own : one_of x ≡ 1 = ap (λ (b : Bool). cond b 1 0) (same-sort sort) in
+    let itself : one_of x ≡ 1 = ap (λ (b : Bool). cond b 1 0) (same-sort sort) in
     let so_far = sum-so-far one_of
     (λ y. ap (λ (k : Sort). cond (is_same_sort sort k) 1 0) (bare-sort y)) whole front rest x s is good in
     let most = counts sort in
-    lt-leb (limit_of sort) (count_by (λ y. is_same_sort sort (sort_of y)) s) (omega (arith, own, so_far, most))
+    lt-leb (limit_of sort) (count_by (λ y. is_same_sort sort (sort_of y)) s) (omega (arith, itself, so_far, most))
 
 items-written : {at : ℕ} (items : List Item) → list_all is_item items ≡ true
     → ((sort : Sort) → count_by (λ y. is_same_sort sort (sort_of y)) items ≤ limit_of sort)
@@ -161,11 +161,11 @@ set-written name period splits depth items h =
     let (numbers, deep) = and_parts (is_number period.value && is_option splits) (is_option depth) h.numbers in
     let (small, split) = and_parts (is_number period.value) (is_option splits) numbers in
     let layed = ap (λ (ss : List Shape). ss ++ end-shape) (set-shapes name period splits depth items) in
-    let ended = set-ended (line_shapes (option_lines (codes "splits") splits)) (line_shapes (option_lines (codes "depth") depth))
+    let terminated = set-ended (line_shapes (option_lines (codes "splits") splits)) (line_shapes (option_lines (codes "depth") depth))
     (flat_map (λ x. line_shapes (item_lines x)) items) in
     let front = λ (ss : List Shape). sh (codes "set") ∷ sh name ∷ sh (codes ";") ∷ sh (codes "period") ∷ sh
     (decimal period.value) ∷ sh (codes "ms") ∷ sh (codes ";") ∷ ss in
-    shaped (sym (layed ∙ ap front ended)) (skip-word (codes "set") refl (λ _. next {G = λ w. w.text ≡ name} (a-name name h.named)
+    shaped (sym (layed ∙ ap front terminated)) (skip-word (codes "set") refl (λ _. next {G = λ w. w.text ≡ name} (a-name name h.named)
     (λ w text.
     skip-sign (codes ";") refl
     (λ _. skip-word (codes "period") refl (λ _. next {G = λ n. n.value ≡ period.value} (a-number period.value small)

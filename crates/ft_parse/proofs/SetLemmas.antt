@@ -5,7 +5,7 @@ use Rattle.ft_read.specs.meaning.Lexeme.{as_end}
 use Rattle.ft_read.specs.meaning.Limit.{no_pass}
 use Rattle.ft_parse.specs.parsers.Items.{is_item_start, more_items_by, set_by, setting_by}
 use Rattle.ft_read.specs.parsers.Parts.{name_by, number_by, sign_by, word_by}
-use Rattle.ft_read.specs.parsers.Combinators.{Parser, Seen, give, read_token, ◌▶◌}
+use Rattle.ft_read.specs.parsers.Combinators.{Parser, ParserState, give, read_token, ◌▶◌}
 use Rattle.ft_parse.specs.parsers.Repetition.{many}
 use Rattle.ft_parse.specs.parsers.Steps.{start_by}
 use Rattle.ft_parse.specs.declared.parts.Parts.{Parts}
@@ -16,7 +16,7 @@ rest-by start =
     setting_by (codes "splits") ▶ λ splits. setting_by (codes "depth") ▶ λ depth. many is_item_start more_items_by [] ▶ λ items. read_token as_end no_pass ▶ λ _.
     give (record { name = start.0; period = start.1; splits = splits; depth = depth; items = items })
 
-pub set_is : (s : Seen) → set_by s
+pub set_is : (s : ParserState) → set_by s
     ≡ (start_by ▶ λ start. setting_by (codes "splits") ▶ λ splits. setting_by (codes "depth") ▶ λ depth. many is_item_start more_items_by [] ▶ λ items.
     read_token as_end no_pass ▶ λ _. give (record { name = start.0; period = start.1; splits = splits; depth = depth; items = items })) s
 unfolding set_by

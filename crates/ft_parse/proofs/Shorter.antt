@@ -2,7 +2,7 @@
 use Rattle.std.proofs.Common.{◌≡◌, refl, sym, ap, true≢false, ℕ, zero, suc, ◌≤◌, ◌<◌, subst, arith, Bool, true, false, List, [], ◌∷◌, length, Option, Some, None, Ok, Err, if◌then◌else◌}
 use Rattle.ft_read.specs.meaning.Lexeme.{Lexeme}
 use Rattle.ft_read.specs.meaning.Limit.{Passes}
-use Rattle.ft_read.specs.parsers.Combinators.{Outcome, Parser, Seen, begins, either_by, give, go_on, read_token, seen, token_as, token_of}
+use Rattle.ft_read.specs.parsers.Combinators.{Outcome, Parser, ParserState, begins, alternative_by, give, bind, read_token, state, token_as, token_of}
 use Rattle.ft_read.specs.parsers.Combinators.{◌▶◌}
 use Rattle.ft_parse.specs.parsers.Repetition.{many, many_by}
 use Rattle.ft_read.specs.declared.stop.Pass.{Pass}
@@ -14,14 +14,14 @@ AtMost n (Err stop, left) = Unit {0}
 
 -- no more are left than before
 pub record Keeps {A : Type 0} (p : Parser A) : Type 0 where
-  pub by : (n : ℕ) (s : Seen) → length s.rest ≤ n → AtMost n (p s)
+  pub by : (n : ℕ) (s : ParserState) → length s.rest ≤ n → AtMost n (p s)
 
 -- fewer are left
 pub record Shortens {A : Type 0} (p : Parser A) : Type 0 where
-  pub by : (n : ℕ) (s : Seen) → length s.rest ≤ suc n → AtMost n (p s)
+  pub by : (n : ℕ) (s : ParserState) → length s.rest ≤ suc n → AtMost n (p s)
 
 pub at-most-then : {A B : Type 0} (n m : ℕ) (next : A → Parser B) (o : Outcome A) → AtMost n o
-    → ((a : A) (left : Seen) → length left.rest ≤ n → AtMost m (next a left)) → AtMost m (go_on next o)
+    → ((a : A) (left : ParserState) → length left.rest ≤ n → AtMost m (next a left)) → AtMost m (bind next o)
 at-most-then n m next (Ok a, left) e f = f a left e
 at-most-then n m next (Err stop, left) e f = tt
 
@@ -54,18 +54,22 @@ by-test : {A : Type 0} (n : ℕ) (b : Bool) (one other : Outcome A) → AtMost n
 by-test n true one other e f = e
 by-test n false one other e f = f
 
-pub either-keeps : {A : Type 0} (test : Lexeme → Bool) (one other : Parser A) → Keeps one → Keeps other → Keeps (either_by test one other)
-either-keeps test one other h k = record { by = λ n s e. by-test n (begins test s.rest) (one s) (other s) (h.by n s e) (k.by n s e) }
+pub alternative-keeps : {A : Type 0} (test : Lexeme → Bool) (one other : Parser A) → Keeps one → Keeps other
+    → Keeps (alternative_by test one other)
+alternative-keeps test one other h k = record { by = λ n s e. by-test n (begins test s.rest) (one s) (other s) (h.by n s e) (k.by n s e) }
 
-pub either-shortens : {A : Type 0} (test : Lexeme → Bool) (one other : Parser A) → Shortens one → Shortens other → Shortens (either_by test one other)
-either-shortens test one other h k = record { by = λ n s e. by-test n (begins test s.rest) (one s) (other s) (h.by n s e) (k.by n s e) }
+pub alternative-shortens : {A : Type 0} (test : Lexeme → Bool) (one other : Parser A) → Shortens one → Shortens other
+    → Shortens (alternative_by test one other)
+alternative-shortens test one other h k =
+    record { by = λ n s e. by-test n (begins test s.rest) (one s) (other s) (h.by n s e) (k.by n s e) }
 
 module _ {A : Type 0} (test : Lexeme → Bool) (part : A → Parser A) where
-  many-times : ((a : A) → Keeps (part a)) → (times n : ℕ) (a : A) (s : Seen) → length s.rest ≤ n → AtMost n (many_by times test part a s)
+  many-times : ((a : A) → Keeps (part a)) → (times n : ℕ) (a : A) (s : ParserState) → length s.rest ≤ n
+      → AtMost n (many_by times test part a s)
   unfolding many_by
   many-times h zero n a s e = e
   many-times h (suc times) n a s e =
-      by-test n (begins test s.rest) (go_on (many_by times test part) (part a s)) (Ok a, s)
+      by-test n (begins test s.rest) (bind (many_by times test part) (part a s)) (Ok a, s)
       (at-most-then n n (many_by times test part) (part a s) ((h a).by n s e) (λ b left f. many-times h times n b left f)) e
 
   pub many-keeps : ((a : A) → Keeps (part a)) → (a : A) → Keeps (many test part a)
@@ -74,15 +78,16 @@ module _ {A : Type 0} (test : Lexeme → Bool) (part : A → Parser A) where
 module _ {A : Type 0} (test : Lexeme → Bool) (part : A → Parser A) (shortens : (a : A) → Shortens (part a)) where
   -- with enough turns the number of turns doesn't matter
   Same : (n m : ℕ) → Type 0
-  Same n m = (b : A) (left : Seen) → length left.rest ≤ n → length left.rest ≤ m → many_by n test part b left ≡ many_by m test part b left
+  Same n m = (b : A) (left : ParserState) → length left.rest ≤ n → length left.rest ≤ m
+      → many_by n test part b left ≡ many_by m test part b left
 
-  go-same : (n m : ℕ) → Same n m → (o : Outcome A) → AtMost n o → AtMost m o → go_on (many_by n test part) o ≡ go_on (many_by m test part) o
+  go-same : (n m : ℕ) → Same n m → (o : Outcome A) → AtMost n o → AtMost m o → bind (many_by n test part) o ≡ bind (many_by m test part) o
   unfolding Same
   go-same n m same (Ok b, left) e f = same b left e f
   go-same n m same (Err stop, left) e f = refl
 
   many-same : (n m : ℕ) (a : A) (at : ℕ) (rest : List Lexeme) → length rest ≤ n → length rest ≤ m
-      → many_by n test part a (seen at rest) ≡ many_by m test part a (seen at rest)
+      → many_by n test part a (state at rest) ≡ many_by m test part a (state at rest)
   unfolding many_by Same
   many-same zero zero a at rest e f = refl
   many-same zero (suc m) a at [] e f = refl
@@ -90,30 +95,34 @@ module _ {A : Type 0} (test : Lexeme → Bool) (part : A → Parser A) (shortens
   many-same (suc n) zero a at [] e f = refl
   many-same (suc n) zero a at (l ∷ ls) e f = absurd (omega (arith, f))
   many-same (suc n) (suc m) a at rest e f =
-      ap (λ (o : Outcome A). if begins test rest then o else (Ok a, seen at rest))
-      (go-same n m (λ b left x y. many-same n m b left.at left.rest x y) (part a (seen at rest))
-      ((shortens a).by n (seen at rest) e) ((shortens a).by m (seen at rest) f))
+      ap (λ (o : Outcome A). if begins test rest then o else (Ok a, state at rest))
+      (go-same n m (λ b left x y. many-same n m b left.at left.rest x y) (part a (state at rest))
+      ((shortens a).by n (state at rest) e) ((shortens a).by m (state at rest) f))
 
-  go-step : (n : ℕ) (o : Outcome A) → AtMost n o → go_on (many_by n test part) o ≡ go_on (many test part) o
+  go-step : (n : ℕ) (o : Outcome A) → AtMost n o → bind (many_by n test part) o ≡ bind (many test part) o
   go-step n (Ok b, left) e = many-same n (length left.rest) b left.at left.rest e (omega arith)
   go-step n (Err stop, left) e = refl
 
   -- one turn of a repetition
-  pub turn : (a : A) (at : ℕ) (rest : List Lexeme) → begins test rest ≡ true → many test part a (seen at rest) ≡ go_on (many test part) (part a (seen at rest))
+  pub turn : (a : A) (at : ℕ) (rest : List Lexeme) → begins test rest ≡ true
+      → many test part a (state at rest) ≡ bind (many test part) (part a (state at rest))
   unfolding many_by
   turn a at [] e = absurd (true≢false (sym e))
-  turn a at (l ∷ ls) e = rw e (go-step (length ls) (part a (seen at (l ∷ ls))) ((shortens a).by (length ls) (seen at (l ∷ ls)) (omega arith)))
+  turn a at (l ∷ ls) e =
+      rw e (go-step (length ls) (part a (state at (l ∷ ls))) ((shortens a).by (length ls) (state at (l ∷ ls)) (omega arith)))
 
   -- its end
-  pub ended : (a : A) (at : ℕ) (rest : List Lexeme) → begins test rest ≡ false → many test part a (seen at rest) ≡ (Ok a, seen at rest)
+  pub repetition-end : (a : A) (at : ℕ) (rest : List Lexeme) → begins test rest ≡ false
+      → many test part a (state at rest) ≡ (Ok a, state at rest)
   unfolding many_by
-  ended a at [] e = refl
-  ended a at (l ∷ ls) e = rw e refl
+  repetition-end a at [] e = refl
+  repetition-end a at (l ∷ ls) e = rw e refl
 
 -- what is read where a test holds leaves fewer
-pub less : {A : Type 0} (test : Lexeme → Bool) (p : Parser A) → Shortens p → (at : ℕ) (rest : List Lexeme) (a : A) (left : Seen) → begins test rest ≡ true
-    → p (seen at rest) ≡ (Ok a, left) → length left.rest < length rest
+pub less : {A : Type 0} (test : Lexeme → Bool) (p : Parser A) → Shortens p → (at : ℕ) (rest : List Lexeme) (a : A) (left : ParserState)
+    → begins test rest ≡ true
+    → p (state at rest) ≡ (Ok a, left) → length left.rest < length rest
 less test p h at [] a left e f = absurd (true≢false (sym e))
 less test p h at (l ∷ ls) a left e f =
-    let most = subst (AtMost (length ls)) f (h.by (length ls) (seen at (l ∷ ls)) (omega arith)) in
+    let most = subst (AtMost (length ls)) f (h.by (length ls) (state at (l ∷ ls)) (omega arith)) in
     omega (arith, most)

@@ -7,8 +7,9 @@ use Rattle.ft_base.specs.declared.place.Place.{Place}
 use Rattle.ft_tree.specs.meaning.Line.{Piece}
 use Rattle.ft_tree.specs.laws.Tokens.{Shape, piece_shape}
 use Rattle.ft_read.specs.meaning.Lexeme.{Lexeme}
-use Rattle.ft_parse.specs.meaning.Language.{Language, Plain, Step, either, lexemes, nothing, repeated, step, times, token, ◌▷◌}
+use Rattle.ft_parse.specs.meaning.Language.{Language, Plain, Step, alternative, lexemes, nothing, repeated, step, times, token, ◌▷◌}
 use Rattle.ft_read.specs.meaning.Limit.{Passes}
+use Rattle.ft_parse.proofs.Faithful.{plain-append}
 
 -- a lexeme without its place
 abbrev pub shape : Lexeme → Shape
@@ -50,10 +51,6 @@ cut (x ∷ xs) ys (l ∷ ls) e =
     let (us, vs, is, f, g) = cut xs ys ls (ap tail e) in
     let first : shape l ≡ x = ap (head_or x) e in
     (l ∷ us, vs, ap (λ (more : List Lexeme). l ∷ more) is, (λ i. first i ∷ f i), g)
-
-plain-append : (us vs : List Step) → Plain us → Plain vs → Plain (us ++ vs)
-plain-append [] vs p q = q
-plain-append (u ∷ us) vs (e, p) q = (e, plain-append us vs p q)
 
 as-long : (steps : List Step) (ls : List Lexeme) (ss : List Shape) → lexemes steps ≡ ls → map shape ls ≡ ss
     → length steps ≡ length ss
@@ -162,12 +159,12 @@ weaker {A} {L} {at} {ss} {G} {H} f w = record { all = go } where
 
 -- the one or the other of two parts
 pub left : {A : Type 0} {L : Language A} {at : ℕ} {ss : List Shape} {G : A → Type 0} (M : Language A) → Writes L at ss G
-    → Writes (either L M) at ss G
-left {A} {L} M w = wider {L = L} {M = either L M} (record { up = λ at steps a h. inl h }) w
+    → Writes (alternative L M) at ss G
+left {A} {L} M w = wider {L = L} {M = alternative L M} (record { up = λ at steps a h. inl h }) w
 
 pub right : {A : Type 0} {M : Language A} {at : ℕ} {ss : List Shape} {G : A → Type 0} (L : Language A) → Writes M at ss G
-    → Writes (either L M) at ss G
-right {A} {M} L w = wider {L = M} {M = either L M} (record { up = λ at steps a h. inr h }) w
+    → Writes (alternative L M) at ss G
+right {A} {M} L w = wider {L = M} {M = alternative L M} (record { up = λ at steps a h. inr h }) w
 
 -- the same shapes
 pub shaped : {A : Type 0} {L : Language A} {at : ℕ} {ss ts : List Shape} {G : A → Type 0} → ss ≡ ts → Writes L at ss G

@@ -4,6 +4,6 @@ pub mod Counts
 pub mod Expressions
 pub mod Faults
 pub mod Items
-pub mod Levels
+pub mod Precedence
 pub mod Repetition
 pub mod Steps

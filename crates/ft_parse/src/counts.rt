@@ -73,7 +73,7 @@ const NONE: Counts = Counts {
 impl Counts {
     /// The counts with an item more.
     #[tactic(auto, using(crate::proofs::CountLemmas::counts))]
-    fn with(self, item: &Item) -> Counts
+    fn including(self, item: &Item) -> Counts
         ensures { (items : List Item) → AreCounted self items → AreCounted result (items ++ item.now ∷ []) }
     {
         match item {
@@ -157,7 +157,7 @@ impl Items {
     pub fn push(&mut self, item: Item) -> Result<(), NoMemory>
         ensures { OnOk result (self.new ≡ self.old ++ item ∷ []) }
     {
-        let counts = self.counts.with(&item);
+        let counts = self.counts.including(&item);
         self.list.push(item)?;
         self.counts = counts;
         Ok(())

@@ -3,7 +3,7 @@ ghost use Rattle.ft_base.specs.declared.place.Place.{Place};
 ghost use Rattle.ft_tree.specs.declared.expr.Expr.{Expr};
 ghost use Rattle.ft_tree.specs.declared.expr.Expr.TheVariants as expr;
 ghost use Rattle.ft_parse.specs.meaning.Expressions.{negated, signed, whole};
-ghost use Rattle.ft_parse.specs.parsers.Levels.{inner_by, level_by, operand_by};
+ghost use Rattle.ft_parse.specs.parsers.Precedence.{inner_by, precedence_by, operand_by};
 ghost use Rattle.ft_read.specs.parsers.Tokens.{ops_of};
 ghost use Rattle.ft_read.specs.meaning.Lexeme.{as_sign, as_word};
 ghost use Rattle.ft_read.specs.parsers.Combinators.{Gives};
@@ -11,7 +11,8 @@ ghost use Rattle.ft_parse.specs.parsers.Expressions.{atom_by, comparison_by, exp
 
 use ft_base::{Boxed, NoMemory, Place, Text};
 use ft_read::{
-    Cursor, Entry, Level, Limits, Stop, is_operator, is_simple, join, read_operator, read_simple,
+    Cursor, Entry, Limits, Precedence, Stop, is_operator, is_simple, join, read_operator,
+    read_simple,
 };
 use ft_tree::Expr;
 use std::alloc::Global;
@@ -56,12 +57,12 @@ fn history(
 
 /// An expression in parentheses.
 #[cycle(expression)]
-#[tactic(auto, using(crate::proofs::LevelLemmas::inner), unfolding(crate::specs::parsers::Expressions::group_by))]
+#[tactic(auto, using(crate::proofs::PrecedenceLemmas::inner), unfolding(crate::specs::parsers::Expressions::group_by))]
 fn group(alloc: Global, cursor: &mut Cursor, entry: Entry, room: u32) -> Result<Expr, Stop>
     ensures { Gives (λ e. e) result cursor.new (group_by entry (inner_by room entry) room cursor.old) }
 {
     let (_, inside) = cursor.open_sign(b"(", entry, room)?;
-    let e = chain(alloc, cursor, Level::Disjunction, entry, inside)?;
+    let e = chain(alloc, cursor, Precedence::Disjunction, entry, inside)?;
     cursor.sign(b")", Limits::Within(entry))?;
     Ok(e)
 }
@@ -88,7 +89,7 @@ fn atom(alloc: Global, cursor: &mut Cursor, entry: Entry, room: u32) -> Result<E
 
 /// A `-` and its operand.
 #[cycle(expression)]
-#[tactic(auto, using(crate::proofs::LevelLemmas::inner), unfolding(crate::specs::parsers::Expressions::prefixed_by))]
+#[tactic(auto, using(crate::proofs::PrecedenceLemmas::inner), unfolding(crate::specs::parsers::Expressions::prefixed_by))]
 fn negative(alloc: Global, cursor: &mut Cursor, entry: Entry, room: u32) -> Result<Expr, Stop>
     ensures { Gives (λ e. e) result cursor.new
         (prefixed_by entry room (as_sign (codes "-")) (inner_by room entry signed) expr.Neg cursor.old) }
@@ -117,9 +118,9 @@ fn unary(alloc: Global, cursor: &mut Cursor, entry: Entry, room: u32) -> Result<
 fn comparison(alloc: Global, cursor: &mut Cursor, entry: Entry, room: u32) -> Result<Expr, Stop>
     ensures { Gives (λ e. e) result cursor.new (comparison_by entry (inner_by room entry) room cursor.old) }
 {
-    let left = operand(alloc, cursor, Level::Comparison, entry, room)?;
-    if is_operator(cursor, Level::Comparison) {
-        right(alloc, cursor, Level::Comparison, entry, room, left)
+    let left = operand(alloc, cursor, Precedence::Comparison, entry, room)?;
+    if is_operator(cursor, Precedence::Comparison) {
+        right(alloc, cursor, Precedence::Comparison, entry, room, left)
     } else {
         Ok(left)
     }
@@ -127,7 +128,7 @@ fn comparison(alloc: Global, cursor: &mut Cursor, entry: Entry, room: u32) -> Re
 
 /// A `not` and its operand.
 #[cycle(expression)]
-#[tactic(auto, using(crate::proofs::LevelLemmas::inner), unfolding(crate::specs::parsers::Expressions::prefixed_by))]
+#[tactic(auto, using(crate::proofs::PrecedenceLemmas::inner), unfolding(crate::specs::parsers::Expressions::prefixed_by))]
 fn opposite(alloc: Global, cursor: &mut Cursor, entry: Entry, room: u32) -> Result<Expr, Stop>
     ensures { Gives (λ e. e) result cursor.new
         (prefixed_by entry room (as_word (codes "not")) (inner_by room entry negated) expr.Not cursor.old) }
@@ -150,67 +151,67 @@ fn negation(alloc: Global, cursor: &mut Cursor, entry: Entry, room: u32) -> Resu
     }
 }
 
-/// What stands between the operators of a level.
+/// What stands between the operators of a precedence.
 #[cycle(expression)]
-#[tactic(auto, using(crate::proofs::LevelLemmas::levels))]
+#[tactic(auto, using(crate::proofs::PrecedenceLemmas::precedences))]
 fn operand(
     alloc: Global,
     cursor: &mut Cursor,
-    level: Level,
+    precedence: Precedence,
     entry: Entry,
     room: u32,
 ) -> Result<Expr, Stop>
-    ensures { Gives (λ e. e) result cursor.new (operand_by level entry (inner_by room entry) room cursor.old) }
+    ensures { Gives (λ e. e) result cursor.new (operand_by precedence entry (inner_by room entry) room cursor.old) }
 {
-    match level {
-        Level::Disjunction => chain(alloc, cursor, Level::Conjunction, entry, room),
-        Level::Conjunction => negation(alloc, cursor, entry, room),
-        Level::Comparison => chain(alloc, cursor, Level::Sum, entry, room),
-        Level::Sum => chain(alloc, cursor, Level::Product, entry, room),
-        Level::Product => unary(alloc, cursor, entry, room),
+    match precedence {
+        Precedence::Disjunction => chain(alloc, cursor, Precedence::Conjunction, entry, room),
+        Precedence::Conjunction => negation(alloc, cursor, entry, room),
+        Precedence::Comparison => chain(alloc, cursor, Precedence::Sum, entry, room),
+        Precedence::Sum => chain(alloc, cursor, Precedence::Product, entry, room),
+        Precedence::Product => unary(alloc, cursor, entry, room),
     }
 }
 
-/// An operator of a level and its right operand.
+/// An operator of a precedence and its right operand.
 #[cycle(expression)]
 #[tactic(auto, unfolding(crate::specs::parsers::Expressions::right_by))]
 fn right(
     alloc: Global,
     cursor: &mut Cursor,
-    level: Level,
+    precedence: Precedence,
     entry: Entry,
     room: u32,
     left: Expr,
 ) -> Result<Expr, Stop>
     ensures { Gives (λ e. e) result cursor.new
-        (right_by entry (ops_of level) (operand_by level entry (inner_by room entry) room) left cursor.old) }
+        (right_by entry (ops_of precedence) (operand_by precedence entry (inner_by room entry) room) left cursor.old) }
 {
-    let operator = read_operator(cursor, level, entry)?;
-    let right = operand(alloc, cursor, level, entry, room)?;
+    let operator = read_operator(cursor, precedence, entry)?;
+    let right = operand(alloc, cursor, precedence, entry, room)?;
     Ok(join(alloc, operator, left, right)?)
 }
 
-/// Operands of a level with its operators between them. They group to the left.
+/// Operands of a precedence with its operators between them. They group to the left.
 #[cycle(expression)]
-#[tactic(auto, using(crate::proofs::LevelLemmas::turns))]
+#[tactic(auto, using(crate::proofs::PrecedenceLemmas::turns))]
 fn chain(
     alloc: Global,
     cursor: &mut Cursor,
-    level: Level,
+    precedence: Precedence,
     entry: Entry,
     room: u32,
 ) -> Result<Expr, Stop>
-    ensures { Gives (λ e. e) result cursor.new (level_by level entry room cursor.old) }
+    ensures { Gives (λ e. e) result cursor.new (precedence_by precedence entry room cursor.old) }
 {
-    let mut left = operand(alloc, cursor, level, entry, room)?;
-    while is_operator(cursor, level) {
-        left = right(alloc, cursor, level, entry, room, left)?;
+    let mut left = operand(alloc, cursor, precedence, entry, room)?;
+    while is_operator(cursor, precedence) {
+        left = right(alloc, cursor, precedence, entry, room, left)?;
     }
     Ok(left)
 }
 
 /// An expression. Where it is an entry too many, its first token is refused.
-#[tactic(auto, using(crate::proofs::LevelLemmas::wholes))]
+#[tactic(auto, using(crate::proofs::PrecedenceLemmas::wholes))]
 pub fn expression(alloc: Global, cursor: &mut Cursor, is_beyond: bool) -> Result<Expr, Stop>
     ensures { Gives (λ e. e) result cursor.new (expression_by is_beyond cursor.old) }
 {
@@ -220,5 +221,5 @@ pub fn expression(alloc: Global, cursor: &mut Cursor, is_beyond: bool) -> Result
         start: first.place,
         is_beyond,
     };
-    chain(alloc, cursor, Level::Disjunction, entry, MOST_OPEN)
+    chain(alloc, cursor, Precedence::Disjunction, entry, MOST_OPEN)
 }

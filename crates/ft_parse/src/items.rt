@@ -1,7 +1,7 @@
 ghost use Rattle.std.specs.Prelude.{◌≡◌, codes};
 ghost use Rattle.ft_read.specs.meaning.Lexeme.{as_sign};
 ghost use Rattle.ft_parse.specs.parsers.Items.{clause_by, constant_by, item_part_by, members_by, range_type_by, sided_by, signed_number_by, type_item_by};
-ghost use Rattle.ft_read.specs.parsers.Combinators.{Gives, can, either_by};
+ghost use Rattle.ft_read.specs.parsers.Combinators.{Gives, can, alternative_by};
 ghost use Rattle.ft_parse.specs.parsers.Steps.{worded_by};
 
 use crate::blocks::block;
@@ -72,7 +72,7 @@ fn range_type(alloc: Global, cursor: &mut Cursor, name: Word) -> Result<Item, St
 /// What stands after the `=` of a type.
 fn type_values(alloc: Global, cursor: &mut Cursor, name: Word) -> Result<Item, Stop>
     ensures { Gives (λ item. item) result cursor.new
-        (either_by (can (as_sign (codes "{"))) (members_by name) (range_type_by name) cursor.old) }
+        (alternative_by (can (as_sign (codes "{"))) (members_by name) (range_type_by name) cursor.old) }
 {
     if cursor.is_sign(b"{") {
         members(alloc, cursor, name)

@@ -4,9 +4,9 @@ use Rattle.ft_tree.specs.declared.expr.Expr.{Expr}
 use Rattle.ft_tree.specs.declared.expr.Expr.TheVariants as expr
 use Rattle.ft_tree.specs.declared.item.Number.{Number}
 use Rattle.ft_tree.specs.declared.item.Word.{Word}
-use Rattle.ft_read.specs.meaning.Lexeme.{Lexeme, as_name, as_number}
+use Rattle.ft_read.specs.meaning.Lexeme.{Lexeme, as_name, as_number, or_else}
 use Rattle.ft_read.specs.parsers.Cursor.{ReadsAs}
-use Rattle.ft_read.specs.meaning.Operators.{as_simple, or_else}
+use Rattle.ft_read.specs.meaning.Operators.{as_simple}
 use Rattle.ft_read.specs.parsers.Combinators.{is_some}
 use Rattle.ft_read.specs.parsers.Tokens.{as_truth_of}
 

@@ -4,7 +4,7 @@ ghost use Rattle.ft_read.specs.parsers.Cursor.{ReadsAs, ReadsFirst, read_first};
 ghost use Rattle.ft_read.specs.meaning.Choices.{as_plain, as_truth};
 ghost use Rattle.ft_read.specs.meaning.Lexeme.{as_sign};
 ghost use Rattle.ft_read.specs.parsers.Parts.{bound_by, kind_of_name_by, kind_part_by, minus_bound_by, number_bound_by, plain_bound_by, range_after_by, upper_by, value_by};
-ghost use Rattle.ft_read.specs.parsers.Combinators.{Gives, begins, can, either_by, read_token};
+ghost use Rattle.ft_read.specs.parsers.Combinators.{Gives, begins, can, alternative_by, read_token};
 
 use crate::cursor::Cursor;
 use crate::lexeme::Lexeme;
@@ -53,7 +53,7 @@ pub fn plain_bound(alloc: Global, cursor: &mut Cursor) -> Result<Bound, Stop>
     ensures { Gives (λ bound. bound) result cursor.new (plain_bound_by cursor.old) }
 {
     let read = first_plain(alloc, cursor)?;
-    cursor.accept(read, Limits::Own)
+    cursor.accept(read, Limits::Lexical)
 }
 
 /// A `-` and a number or a name.
@@ -175,9 +175,9 @@ fn number_bound(cursor: &mut Cursor) -> Result<Bound, Stop>
 }
 
 /// The lower bound of a range that doesn't begin with a name.
-fn lower(alloc: Global, cursor: &mut Cursor) -> Result<Bound, Stop>
+fn lower_bound(alloc: Global, cursor: &mut Cursor) -> Result<Bound, Stop>
     ensures { Gives (λ bound. bound) result cursor.new
-        (either_by (can (as_sign (codes "-"))) minus_bound_by number_bound_by cursor.old) }
+        (alternative_by (can (as_sign (codes "-"))) minus_bound_by number_bound_by cursor.old) }
 {
     if cursor.is_sign(b"-") {
         minus_bound(alloc, cursor)
@@ -199,6 +199,6 @@ pub fn kind(alloc: Global, cursor: &mut Cursor) -> Result<Kind, Stop>
         let name = name(alloc, cursor)?;
         return kind_of_name(alloc, cursor, name);
     }
-    let lo = lower(alloc, cursor)?;
+    let lo = lower_bound(alloc, cursor)?;
     range_after(alloc, cursor, lo)
 }

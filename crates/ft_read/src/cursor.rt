@@ -1,10 +1,10 @@
 ghost use Rattle.std.specs.Prelude.{◌≡◌, ◌<◌, ◌+◌, ◌^◌, ◌∷◌, suc, List, ℕ, [], length, IfOk, IfSome, MatchOption};
 ghost use Rattle.std.specs.List.{All};
 ghost use Rattle.ft_lex.specs.Tokens.{LiesIn};
-ghost use Rattle.ft_read.specs.parsers.Cursor.{ReadsFirst, after, head, passes_of, read_first};
-ghost use Rattle.ft_read.specs.meaning.Limit.{no_pass, alone, opening};
+ghost use Rattle.ft_read.specs.parsers.Cursor.{ReadsFirst, advanced, head, passes_of, read_first};
+ghost use Rattle.ft_read.specs.meaning.Limit.{no_pass, lexical_passes, opening};
 ghost use Rattle.ft_read.specs.meaning.Lexeme.{as_end, as_name, as_number, as_sign, as_word, lexemes_of};
-ghost use Rattle.ft_read.specs.parsers.Combinators.{Gives, begins, can, read_token, seen};
+ghost use Rattle.ft_read.specs.parsers.Combinators.{Gives, begins, can, read_token, state};
 
 use crate::lexeme::Lexeme;
 use crate::limits::Limits;
@@ -29,11 +29,11 @@ impl<'t> Model for Cursor<'t> {
     ghost use Rattle.std.specs.List.{All};
     ghost use Rattle.ft_lex.specs.Tokens.{LiesIn};
     ghost use Rattle.ft_read.specs.meaning.Lexeme.{lexemes_of};
-    ghost use Rattle.ft_read.specs.parsers.Combinators.{Seen, seen};
+    ghost use Rattle.ft_read.specs.parsers.Combinators.{ParserState, state};
 
-    ghost Value = { Seen };
+    ghost Value = { ParserState };
 
-    ghost view = { λ cursor. seen cursor.at (lexemes_of cursor.text.now cursor.rest.now) };
+    ghost view = { λ cursor. state cursor.at (lexemes_of cursor.text.now cursor.rest.now) };
 
     ghost invariant = { λ cursor.
         All (LiesIn cursor.text.now) cursor.rest.now × (cursor.at + length cursor.rest.now < 2 ^ 64) };
@@ -54,7 +54,7 @@ impl<'t> Cursor<'t> {
     /// Before the first token of a text, whose tokens these are.
     pub fn new(text: &'t [u8], tokens: &'t [Token]) -> Cursor<'t>
         requires { All (LiesIn text.now) tokens.now }
-        ensures { result ≡ seen 0 (lexemes_of text.now tokens.now) }
+        ensures { result ≡ state 0 (lexemes_of text.now tokens.now) }
     {
         Cursor {
             text,
@@ -86,7 +86,7 @@ impl<'t> Cursor<'t> {
 
     /// Goes past the next token.
     fn advance(&mut self)
-        ensures { self.new ≡ after self.old }
+        ensures { self.new ≡ advanced self.old }
     {
         if let Some((_, rest)) = next(self.rest) {
             self.rest = rest;
@@ -195,10 +195,10 @@ impl<'t> Cursor<'t> {
     /// Goes past a number of at most 1,000,000,000, and gives it.
     #[tactic(auto, using(crate::proofs::CursorLemmas::numbers))]
     pub fn number(&mut self) -> Result<Number, Stop>
-        ensures { Gives (λ number. number) result self.new (read_token as_number alone self.old) }
+        ensures { Gives (λ number. number) result self.new (read_token as_number lexical_passes self.old) }
     {
         let read = self.first_number();
-        self.accept(read, Limits::Own)
+        self.accept(read, Limits::Lexical)
     }
 
     /// The next token's place, where it is the text's end.

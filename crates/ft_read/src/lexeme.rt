@@ -2,7 +2,7 @@ ghost use Rattle.std.specs.Prelude.{◌≡◌, ◌≤◌, min, IfOk};
 ghost use Rattle.ft_read.specs.parsers.Cursor.{ReadsAs};
 ghost use Rattle.ft_base.specs.Digits.{decimal_value};
 ghost use Rattle.ft_read.specs.meaning.Lexeme.{as_end, as_name, as_number, as_sign, as_word};
-ghost use Rattle.ft_read.specs.meaning.Limit.{own_pass};
+ghost use Rattle.ft_read.specs.meaning.Limit.{lexical_pass};
 ghost use Rattle.ft_read.specs.parsers.Combinators.{can};
 
 use crate::stop::{LimitWord, Pass};
@@ -116,8 +116,8 @@ impl<'t> Lexeme<'t> {
     }
 
     /// The limit that it passes by itself: a name has at most 40 bytes, and a number is at most 1,000,000,000.
-    pub fn own_pass(&self) -> Option<Pass>
-        ensures { result ≡ own_pass self.now }
+    pub fn lexical_pass(&self) -> Option<Pass>
+        ensures { result ≡ lexical_pass self.now }
     {
         match self.kind {
             TokenKind::Name if self.bytes.len() > LONGEST_NAME => Some(Pass {

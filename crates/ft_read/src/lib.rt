@@ -20,7 +20,7 @@ pub use choices::{
 pub use cursor::Cursor;
 pub use lexeme::Lexeme;
 pub use limits::Limits;
-pub use operators::{Level, is_operator, join, read_operator};
+pub use operators::{Precedence, is_operator, join, read_operator};
 pub use parts::{Entry, Operator, SectionAt};
 pub use simple::{is_simple, read_simple};
 pub use stop::{LimitWord, Pass, Stop};

@@ -1,6 +1,7 @@
 ghost use Rattle.std.specs.Prelude.{◌≡◌, ◌<◌, ◌+◌, nat_le};
 ghost use Rattle.ft_read.specs.parsers.Cursor.{passes_of};
-ghost use Rattle.ft_read.specs.meaning.Limit.{first_of, is_extra, is_late, opening, where_so, within};
+ghost use Rattle.ft_read.specs.meaning.Limit.{is_extra, is_late, opening, where_so, within};
+ghost use Rattle.ft_read.specs.meaning.Lexeme.{or_else};
 
 use crate::lexeme::Lexeme;
 use crate::parts::Entry;
@@ -13,7 +14,7 @@ pub enum Limits {
     /// None.
     Free,
     /// Those of names and numbers.
-    Own,
+    Lexical,
     /// Those, and this one where there is no room for what the token begins or names.
     Counted {
         is_full: bool,
@@ -51,7 +52,7 @@ fn within(entry: Entry, at: usize, lexeme: &Lexeme) -> Option<Pass>
     let is_extra = entry.is_beyond && at == entry.before;
     let is_late = at.saturating_sub(entry.before) >= MOST_TOKENS;
     lexeme
-        .own_pass()
+        .lexical_pass()
         .or(where_so(is_extra, LimitWord::Columns, lexeme.place))
         .or(where_so(is_late, LimitWord::Expression, entry.start))
 }
@@ -63,15 +64,17 @@ impl Limits {
     {
         match self {
             Limits::Free => None,
-            Limits::Own => lexeme.own_pass(),
+            Limits::Lexical => lexeme.lexical_pass(),
             Limits::Counted { is_full, which } => {
-                lexeme.own_pass().or(where_so(is_full, which, lexeme.place))
+                lexeme
+                    .lexical_pass()
+                    .or(where_so(is_full, which, lexeme.place))
             }
             Limits::CountedAt {
                 is_full,
                 which,
                 place,
-            } => lexeme.own_pass().or(where_so(is_full, which, place)),
+            } => lexeme.lexical_pass().or(where_so(is_full, which, place)),
             Limits::Within(entry) => within(entry, at, lexeme),
             Limits::Opening { entry, room } => {
                 within(entry, at, lexeme).or(where_so(room == 0, LimitWord::Nesting, lexeme.place))

@@ -17,7 +17,7 @@ use std::alloc::Global;
 
 /// How loosely operators bind.
 #[derive(Clone, Copy, Drop)]
-pub enum Level {
+pub enum Precedence {
     Disjunction,
     Conjunction,
     Comparison,
@@ -42,44 +42,51 @@ fn relation(lexeme: &Lexeme) -> Option<Operator>
     operator(Op::Eq, lexeme.sign(b"=")).or(operator(Op::Ne, lexeme.sign(b"<>")).or(unequal))
 }
 
-/// The operator of this level that a token is.
-fn operator_of(level: Level, lexeme: &Lexeme) -> Option<Operator>
-    ensures { result ≡ ops_of level lexeme.now }
+/// The operator of this precedence that a token is.
+fn operator_of(precedence: Precedence, lexeme: &Lexeme) -> Option<Operator>
+    ensures { result ≡ ops_of precedence lexeme.now }
 {
-    match level {
-        Level::Disjunction => operator(Op::Or, lexeme.word(b"or")),
-        Level::Conjunction => operator(Op::And, lexeme.word(b"and")),
-        Level::Comparison => relation(lexeme),
-        Level::Sum => operator(Op::Add, lexeme.sign(b"+")).or(operator(Op::Sub, lexeme.sign(b"-"))),
-        Level::Product => operator(Op::Mul, lexeme.sign(b"*")).or(operator(
+    match precedence {
+        Precedence::Disjunction => operator(Op::Or, lexeme.word(b"or")),
+        Precedence::Conjunction => operator(Op::And, lexeme.word(b"and")),
+        Precedence::Comparison => relation(lexeme),
+        Precedence::Sum => operator(Op::Add, lexeme.sign(b"+")).or(operator(
+            Op::Sub,
+            lexeme.sign(b"-"),
+        )),
+        Precedence::Product => operator(Op::Mul, lexeme.sign(b"*")).or(operator(
             Op::Div,
             lexeme.word(b"div"),
         )),
     }
 }
 
-/// The operator of this level that the next token is.
-fn first_operator(level: Level, cursor: &Cursor) -> Option<Operator>
-    ensures { result ≡ read_first (ops_of level) cursor.now.rest }
+/// The operator of this precedence that the next token is.
+fn first_operator(precedence: Precedence, cursor: &Cursor) -> Option<Operator>
+    ensures { result ≡ read_first (ops_of precedence) cursor.now.rest }
 {
-    operator_of(level, &cursor.first()?)
+    operator_of(precedence, &cursor.first()?)
 }
 
-/// Goes past an operator of this level.
+/// Goes past an operator of this precedence.
 #[tactic(auto, using(crate::proofs::CursorLemmas::reads))]
-pub fn read_operator(cursor: &mut Cursor, level: Level, entry: Entry) -> Result<Operator, Stop>
-    ensures { Gives (λ operator. operator) result cursor.new (read_token (ops_of level) (within entry) cursor.old) }
+pub fn read_operator(
+    cursor: &mut Cursor,
+    precedence: Precedence,
+    entry: Entry,
+) -> Result<Operator, Stop>
+    ensures { Gives (λ operator. operator) result cursor.new (read_token (ops_of precedence) (within entry) cursor.old) }
 {
-    let read = first_operator(level, cursor);
+    let read = first_operator(precedence, cursor);
     cursor.accept(read, Limits::Within(entry))
 }
 
-/// Whether an operator of this level is next.
+/// Whether an operator of this precedence is next.
 #[tactic(auto, using(crate::proofs::CursorLemmas::tests))]
-pub fn is_operator(cursor: &Cursor, level: Level) -> bool
-    ensures { result ≡ begins (can (ops_of level)) cursor.now.rest }
+pub fn is_operator(cursor: &Cursor, precedence: Precedence) -> bool
+    ensures { result ≡ begins (can (ops_of precedence)) cursor.now.rest }
 {
-    first_operator(level, cursor).is_some()
+    first_operator(precedence, cursor).is_some()
 }
 
 /// Two operands with an operator between them.

@@ -40,7 +40,7 @@ pub fn number(cursor: &mut Cursor) -> Result<Number, Stop>
 pub fn name(alloc: Global, cursor: &mut Cursor) -> Result<Word, Stop>
     ensures { Gives (λ name. name) result cursor.new (name_by cursor.old) }
 {
-    cursor.name(alloc, Limits::Own)
+    cursor.name(alloc, Limits::Lexical)
 }
 
 /// Goes past a name, which is one too many where there is no room for it.

@@ -9,8 +9,8 @@ use Rattle.ft_tree.specs.declared.writer.Last.TheVariants.{Start}
 use Rattle.ft_tree.specs.declared.writer.Writer.{Writer}
 use Rattle.ft_tree.specs.meaning.Line.{Line, Piece, gap, hugs_after, hugs_before, is_history, line_bytes, line_text, piece_text}
 use Rattle.ft_tree.specs.meaning.Line.{text_after}
-use Rattle.ft_tree.specs.writing.Writer.{after, closed, gap_of, indented, last_of, put, with_line, with_lines}
-use Rattle.ft_tree.proofs.WritingLemmas.{after-cons, after-none, lines-cons, lines-none}
+use Rattle.ft_tree.specs.writing.Writer.{put_all, closed, gap_of, indented, last_of, put, with_line, with_lines}
+use Rattle.ft_tree.proofs.WritingLemmas.{put_all-cons, put_all-none, lines-cons, lines-none}
 
 -- what is known of the last token tells the space after it
 gap-of : (before next : Piece) → gap_of (last_of before) next ≡ gap before next
@@ -30,20 +30,21 @@ put-last : (w : Writer) (piece : Piece) → (put w piece).last ≡ last_of piece
 unfolding put
 put-last w piece = refl
 
-text-after : (w : Writer) (before : Piece) (pieces : List Piece) → w.last ≡ last_of before → (after w pieces).text ≡ w.text ++ text_after before pieces
-text-after w before [] h = ap (λ (v : Writer). v.text) (after-none w) ∙ sym (append-nil w.text)
+text-after : (w : Writer) (before : Piece) (pieces : List Piece) → w.last ≡ last_of before
+    → (put_all w pieces).text ≡ w.text ++ text_after before pieces
+text-after w before [] h = ap (λ (v : Writer). v.text) (put_all-none w) ∙ sym (append-nil w.text)
 text-after w before (next ∷ more) h =
-    ap (λ (v : Writer). v.text) (after-cons w next more)
+    ap (λ (v : Writer). v.text) (put_all-cons w next more)
     ∙ text-after (put w next) next more (put-last w next)
     ∙ ap (λ (l : List ℕ). l ++ text_after next more) (put-text w next)
     ∙ append_assoc (w.text ++ gap_of w.last next) (piece_text next) (text_after next more)
     ∙ append_assoc w.text (gap_of w.last next) (piece_text next ++ text_after next more)
     ∙ ap (λ (g : List ℕ). w.text ++ (g ++ (piece_text next ++ text_after next more))) (ap (λ (l : Last). gap_of l next) h ∙ gap-of before next)
 
-text-line : (w : Writer) (pieces : List Piece) → w.last ≡ Start → (after w pieces).text ≡ w.text ++ line_text pieces
-text-line w [] h = ap (λ (v : Writer). v.text) (after-none w) ∙ sym (append-nil w.text)
+text-line : (w : Writer) (pieces : List Piece) → w.last ≡ Start → (put_all w pieces).text ≡ w.text ++ line_text pieces
+text-line w [] h = ap (λ (v : Writer). v.text) (put_all-none w) ∙ sym (append-nil w.text)
 text-line w (first ∷ more) h =
-    ap (λ (v : Writer). v.text) (after-cons w first more)
+    ap (λ (v : Writer). v.text) (put_all-cons w first more)
     ∙ text-after (put w first) first more (put-last w first)
     ∙ ap (λ (l : List ℕ). l ++ text_after first more) (put-text w first)
     ∙ append_assoc (w.text ++ gap_of w.last first) (piece_text first) (text_after first more)
@@ -70,7 +71,7 @@ indented-text false w = sym (append-nil w.text)
 
 line-text : (w : Writer) (line : Line) → w.last ≡ Start → (with_line w line).text ≡ w.text ++ line_bytes line
 line-text w line h =
-    closed-text (after (indented line.is_inner w) line.pieces)
+    closed-text (put_all (indented line.is_inner w) line.pieces)
     ∙ ap (λ (l : List ℕ). l ++ 10 ∷ []) (text-line (indented line.is_inner w) line.pieces (indented-last line.is_inner w ∙ h))
     ∙ append_assoc (indented line.is_inner w).text (line_text line.pieces) (10 ∷ [])
     ∙ ap (λ (l : List ℕ). l ++ (line_text line.pieces ++ 10 ∷ [])) (indented-text line.is_inner w)
@@ -81,7 +82,7 @@ pub lines-text : (w : Writer) (lines : List Line) → w.last ≡ Start → (with
 lines-text w [] h = ap (λ (v : Writer). v.text) (lines-none w) ∙ sym (append-nil w.text)
 lines-text w (line ∷ more) h =
     ap (λ (v : Writer). v.text) (lines-cons w line more)
-    ∙ lines-text (with_line w line) more (closed-last (after (indented line.is_inner w) line.pieces))
+    ∙ lines-text (with_line w line) more (closed-last (put_all (indented line.is_inner w) line.pieces))
     ∙ ap (λ (l : List ℕ). l ++ flat_map line_bytes more) (line-text w line h)
     ∙ append_assoc w.text (line_bytes line) (flat_map line_bytes more)
     ∙ ap (λ (l : List ℕ). w.text ++ l) (sym (flat_map-cons line_bytes line more))

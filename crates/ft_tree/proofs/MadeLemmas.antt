@@ -137,10 +137,10 @@ pub record Reads (text : List ℕ) (from : ℕ) (shapes : List Shape) : Type 0 w
 read-end : (text before space : List ℕ) → text ≡ before ++ space → list_all is_blank space ≡ true → Reads text (length before) []
 read-end text before space e blanks =
     let whole : text ≡ before ++ (space ++ []) = e ∙ ap (λ (l : List ℕ). before ++ l) (sym (append-nil space)) in
-    let ended : Stands (End, []) [] = record { no_space = λ none. none; shaped = (refl, refl) } in
+    let terminated : Stands (End, []) [] = record { no_space = λ none. none; shaped = (refl, refl) } in
     record {
       tokens = token_at text (length before + length space) (End, []) ∷ [];
-      are = (next-is text before space [] (End, []) whole blanks ended, refl);
+      are = (next-is text before space [] (End, []) whole blanks terminated, refl);
       shaped = ap (λ (shape : Shape). shape ∷ []) (shape-read text before space [] (End, []) whole);
     }
 

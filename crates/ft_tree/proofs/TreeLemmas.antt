@@ -32,7 +32,7 @@ use Rattle.ft_tree.specs.meaning.Limits.{IsSet, are_entries, are_listed, is_boun
 use Rattle.ft_tree.specs.meaning.Limits.{is_init_value, is_item, is_kind, is_lawful, is_number, is_option, is_plain, is_row, is_side}
 use Rattle.ft_tree.specs.meaning.Limits.{is_vrow, is_word, nested}
 use Rattle.ft_tree.specs.meaning.Line.{Line, Piece, outer, token}
-use Rattle.ft_tree.specs.meaning.Lines.{band_pieces, block_lines, body_lines, bound_pieces, brace_line, constant_pieces, ended}
+use Rattle.ft_tree.specs.meaning.Lines.{band_pieces, block_lines, body_lines, bound_pieces, brace_line, constant_pieces, terminated}
 use Rattle.ft_tree.specs.meaning.Lines.{enum_type_pieces, exprs_line, exprs_pieces, fact_line, head_line, held_pieces, hyst_pieces}
 use Rattle.ft_tree.specs.meaning.Lines.{item_lines, kind_pieces, memory_head, moment_text, names_pieces, nat_pieces, one_line}
 use Rattle.ft_tree.specs.meaning.Lines.{option_lines, part_lines, period_pieces, plain_text, range_pieces, range_type_pieces, row_line}
@@ -42,6 +42,7 @@ use Rattle.ft_tree.proofs.LineLemmas.{is_sound_line}
 use Rattle.ft_tree.proofs.PieceLemmas.{is_token}
 use Rattle.ft_tree.proofs.SoundLemmas.{AreSound, expr-sound, listed-sound, more-pieces, more-minus, more-token, one-token, name-token}
 use Rattle.ft_tree.proofs.SoundLemmas.{no-pieces, number-token, truth-token}
+use Rattle.ft_tree.specs.laws.Chains.{three-hold, four-hold, five-hold}
 
 pub record AreSoundLines (lines : List Line) : Type 0 where
   pub all : list_all is_sound_line lines ≡ true
@@ -150,12 +151,12 @@ moment-token First = refl
 moment-token Always = refl
 moment-token Step = refl
 
-ended-sound : (pieces : List Piece) → AreSound pieces → AreSound (ended pieces)
+terminated-sound : (pieces : List Piece) → AreSound pieces → AreSound (terminated pieces)
 unfolding is_token signs
-ended-sound pieces h = more-pieces pieces _ h (one-token (codes ";") refl)
+terminated-sound pieces h = more-pieces pieces _ h (one-token (codes ";") refl)
 
 one-sound : (pieces : List Piece) → AreSound pieces → AreSoundLines (one_line pieces)
-one-sound pieces h = more-line (outer (ended pieces)) [] (ended-sound pieces h) no-lines
+one-sound pieces h = more-line (outer (terminated pieces)) [] (terminated-sound pieces h) no-lines
 
 constant-sound : (name : Word) (sign : Bool) (value : Number) → is_word name ≡ true → is_number value.value ≡ true
     → AreSound (constant_pieces name sign value)
@@ -221,36 +222,36 @@ nat-sound moment cond h =
 -- the inner lines of tables and blocks
 exprs_line-sound : (word : List ℕ) (exprs : List Expr) → is_token word ≡ true → are_entries exprs ≡ true
     → AreSound (exprs_line word exprs).pieces
-exprs_line-sound word exprs h k = more-token word _ h (ended-sound (exprs_pieces exprs) (entries-sound exprs k))
+exprs_line-sound word exprs h k = more-token word _ h (terminated-sound (exprs_pieces exprs) (entries-sound exprs k))
 
 row-sound : (row : Row) → is_row row ≡ true → AreSound (row_line row).pieces
 unfolding is_token signs
 row-sound row h =
     let (head, entries) = and_parts (is_expr row.head) (are_entries row.entries) h in
     more-token (codes "row") _ refl (more-pieces (expr_pieces row.head) _ (lawful-sound row.head head)
-    (more-token (codes ":") _ refl (ended-sound (exprs_pieces row.entries) (entries-sound row.entries entries))))
+    (more-token (codes ":") _ refl (terminated-sound (exprs_pieces row.entries) (entries-sound row.entries entries))))
 
 vrow-sound : (row : VRow) → is_vrow row ≡ true → AreSound (vrow_line row).pieces
 unfolding is_token signs
 vrow-sound row h =
     let (target, entries) = and_parts (is_word row.target) (are_entries row.entries) h in
     more-token (codes "row") _ refl (more-name row.target.text _ target
-    (more-token (codes ":") _ refl (ended-sound (exprs_pieces row.entries) (entries-sound row.entries entries))))
+    (more-token (codes ":") _ refl (terminated-sound (exprs_pieces row.entries) (entries-sound row.entries entries))))
 
 fact-sound : (fact : FactItem) → is_fact fact ≡ true → AreSound (fact_line fact).pieces
 unfolding is_token signs
 fact-sound (Shows name cond) h =
     let (named, lawful) = and_parts (is_word name) (is_expr cond) h in
-    let ends = ended-sound (expr_pieces cond) (lawful-sound cond lawful) in
+    let ends = terminated-sound (expr_pieces cond) (lawful-sound cond lawful) in
     more-token (codes "shows") _ refl (more-name name.text _ named (more-token (codes ":") _ refl ends))
-fact-sound (Goal con) h = more-token (codes "goal") _ refl (ended-sound (word_pieces con) (word-sound con h))
+fact-sound (Goal con) h = more-token (codes "goal") _ refl (terminated-sound (word_pieces con) (word-sound con h))
 
 part-sound : (word : List ℕ) (names : List Word) → is_token word ≡ true → are_listed names ≡ true
     → AreSoundLines (part_lines word names)
 part-sound word [] h k = no-lines
 part-sound word (first ∷ more) h k =
     let (_, all) = and_parts (nat_le (length (first ∷ more)) 300) (list_all is_word (first ∷ more)) k in
-    more-line _ [] (more-token word _ h (ended-sound (names_pieces (first ∷ more)) (names-sound (first ∷ more) all))) no-lines
+    more-line _ [] (more-token word _ h (terminated-sound (names_pieces (first ∷ more)) (names-sound (first ∷ more) all))) no-lines
 
 body-sound : (head : List Piece) (lines : List Line) → AreSound head → AreSoundLines lines → AreSoundLines (body_lines head lines)
 unfolding is_token signs
@@ -283,62 +284,44 @@ block-sound name takes uses facts h k j all =
     (more-lines (part_lines (codes "uses") uses) _ (part-sound (codes "uses") uses refl j)
     (map-lines fact_line is_fact fact-sound facts all)))
 
-three : (a b c : Bool) → (a && b && c) ≡ true → (a ≡ true) × (b ≡ true) × (c ≡ true)
-three a b c h =
-    let (two, third) = and_parts (a && b) c h in
-    let (first, second) = and_parts a b two in
-    (first, second, third)
-
-four : (a b c d : Bool) → (a && b && c && d) ≡ true → (a ≡ true) × (b ≡ true) × (c ≡ true) × (d ≡ true)
-four a b c d h =
-    let (before, fourth) = and_parts (a && b && c) d h in
-    let (first, second, third) = three a b c before in
-    (first, second, third, fourth)
-
-five : (a b c d e : Bool) → (a && b && c && d && e) ≡ true → (a ≡ true) × (b ≡ true) × (c ≡ true) × (d ≡ true) × (e ≡ true)
-five a b c d e h =
-    let (before, fifth) = and_parts (a && b && c && d) e h in
-    let (first, second, third, fourth) = four a b c d before in
-    (first, second, third, fourth, fifth)
-
 item-sound : (item : Item) → is_item item ≡ true → AreSoundLines (item_lines item)
 unfolding is_token signs
 item-sound (Constant name sign value) h =
     let (named, number) = and_parts (is_word name) (is_number value.value) h in
     one-sound _ (constant-sound name sign value named number)
 item-sound (RangeType name lo hi) h =
-    let (named, low, high) = three (is_word name) (is_bound lo) (is_bound hi) h in
+    let (named, low, high) = three-hold (is_word name) (is_bound lo) (is_bound hi) h in
     one-sound _ (range_type-sound name lo hi named low high)
 item-sound (EnumType name members) h =
-    let (named, _, all) = three (is_word name) (is_count 64 (length members)) (list_all is_word members) h in
+    let (named, _, all) = three-hold (is_word name) (is_count 64 (length members)) (list_all is_word members) h in
     one-sound _ (enum_type-sound name members named all)
 item-sound (Variable word name of init) h =
-    let (named, lawful, begins) = three (is_word name) (is_kind of) (is_init init) h in
+    let (named, lawful, begins) = three-hold (is_word name) (is_kind of) (is_init init) h in
     one-sound _ (variable-sound word name of init named lawful begins)
 item-sound (Held side name cond hold) h =
-    let (_, named, lawful, held) = four (is_side side) (is_word name) (is_expr cond) (is_hold hold) h in
+    let (_, named, lawful, held) = four-hold (is_side side) (is_word name) (is_expr cond) (is_hold hold) h in
     let (bound, _) = and_parts (is_bound hold) (not hold.minus) held in
     one-sound _ (held-sound side name cond hold named lawful bound)
 item-sound (Hyst side name term lo hi start) h =
-    let (_, named, lawful, low, high) = five (is_side side) (is_word name) (is_expr term) (is_bound lo) (is_bound hi) h in
+    let (_, named, lawful, low, high) = five-hold (is_side side) (is_word name) (is_expr term) (is_bound lo) (is_bound hi) h in
     one-sound _ (hyst-sound side name term lo hi start named lawful low high)
 item-sound (Normal section target columns rows) h =
     let (named, header, _, all) =
-    four (is_word target) (are_entries columns) (is_count 32 (length rows)) (list_all is_row rows) h in
+    four-hold (is_word target) (are_entries columns) (is_count 32 (length rows)) (list_all is_row rows) h in
     let head = head-sound section (codes "normal") target refl named in
     table-sound row_line is_row row-sound _ (codes "columns") columns rows head refl header all
 item-sound (Inverted section target terms rows) h =
     let (named, header, _, all) =
-    four (is_word target) (are_entries terms) (is_count 32 (length rows)) (list_all is_row rows) h in
+    four-hold (is_word target) (are_entries terms) (is_count 32 (length rows)) (list_all is_row rows) h in
     let head = head-sound section (codes "inverted") target refl named in
     table-sound row_line is_row row-sound _ (codes "terms") terms rows head refl header all
 item-sound (Vector section columns rows) h =
-    let (header, _, all) = three (are_entries columns) (is_count 32 (length rows)) (list_all is_vrow rows) h in
+    let (header, _, all) = three-hold (are_entries columns) (is_count 32 (length rows)) (list_all is_vrow rows) h in
     table-sound vrow_line is_vrow vrow-sound _ (codes "columns") columns rows (vector-sound section) refl header all
 item-sound (Nat moment cond) h = one-sound _ (nat-sound moment cond h)
 item-sound (Block name takes uses facts) h =
     let (named, taken, used, _, all) =
-    five (is_word name) (are_listed takes) (are_listed uses) (nat_le 1 (length facts)) (list_all is_fact facts) h in
+    five-hold (is_word name) (are_listed takes) (are_listed uses) (nat_le 1 (length facts)) (list_all is_fact facts) h in
     block-sound name takes uses facts named taken used all
 
 option-sound : (word : List ℕ) (number : Option Number) → is_token word ≡ true → is_option number ≡ true
@@ -351,7 +334,7 @@ pub set-sound : (name : List ℕ) (period : Number) (splits depth : Option Numbe
     → IsSet name period splits depth items → AreSoundLines (set_lines name period splits depth items)
 unfolding is_token
 set-sound name period splits depth items h =
-    let (counted, split, deep) = three (is_number period.value) (is_option splits) (is_option depth) h.numbers in
+    let (counted, split, deep) = three-hold (is_number period.value) (is_option splits) (is_option depth) h.numbers in
     more-lines (one_line (set_pieces name)) _
     (one-sound _ (more-token (codes "set") _ refl (one-token name (name-token name h.named))))
     (more-lines (one_line (period_pieces period)) _

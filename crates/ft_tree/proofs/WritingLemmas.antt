@@ -7,20 +7,20 @@ use Rattle.std.proofs.lemmas.List.Concat.{flat_map-cons}
 use Rattle.ft_tree.specs.declared.writer.Writer.{Writer}
 use Rattle.ft_tree.specs.meaning.Line.{Line, Piece, token}
 use Rattle.ft_tree.specs.meaning.Lines.{listed}
-use Rattle.ft_tree.specs.writing.Writer.{after, closed, indented, put, with_line, with_lines}
+use Rattle.ft_tree.specs.writing.Writer.{put_all, closed, indented, put, with_line, with_lines}
 
-pub after-none : (w : Writer) → after w [] ≡ w
-unfolding after
-after-none w = refl
+pub put_all-none : (w : Writer) → put_all w [] ≡ w
+unfolding put_all
+put_all-none w = refl
 
-pub after-cons : (w : Writer) (piece : Piece) (more : List Piece) → after w (piece ∷ more) ≡ after (put w piece) more
-unfolding after
-after-cons w piece more = refl
+pub put_all-cons : (w : Writer) (piece : Piece) (more : List Piece) → put_all w (piece ∷ more) ≡ put_all (put w piece) more
+unfolding put_all
+put_all-cons w piece more = refl
 
-pub after-append : (w : Writer) (xs ys : List Piece) → after w (xs ++ ys) ≡ after (after w xs) ys
-unfolding after
-after-append w [] ys = refl
-after-append w (x ∷ xs) ys = after-append (put w x) xs ys
+pub put_all-append : (w : Writer) (xs ys : List Piece) → put_all w (xs ++ ys) ≡ put_all (put_all w xs) ys
+unfolding put_all
+put_all-append w [] ys = refl
+put_all-append w (x ∷ xs) ys = put_all-append (put w x) xs ys
 
 pub outer-is : (w : Writer) → indented false w ≡ w
 unfolding indented
@@ -30,17 +30,18 @@ pub lines-none : (w : Writer) → with_lines w [] ≡ w
 unfolding with_lines
 lines-none w = refl
 
-pub lines-cons : (w : Writer) (line : Line) (more : List Line) → with_lines w (line ∷ more) ≡ with_lines (closed (after (indented line.is_inner w) line.pieces)) more
+pub lines-cons : (w : Writer) (line : Line) (more : List Line)
+    → with_lines w (line ∷ more) ≡ with_lines (closed (put_all (indented line.is_inner w) line.pieces)) more
 unfolding with_lines
 lines-cons w line more = refl
 
 pub lines-append : (w : Writer) (xs ys : List Line) → with_lines w (xs ++ ys) ≡ with_lines (with_lines w xs) ys
 unfolding with_lines
 lines-append w [] ys = refl
-lines-append w (x ∷ xs) ys = lines-append (closed (after (indented x.is_inner w) x.pieces)) xs ys
+lines-append w (x ∷ xs) ys = lines-append (closed (put_all (indented x.is_inner w) x.pieces)) xs ys
 
 -- tokens and lines are written one by one
-pub ruleset steps = (after-none, after-cons, after-append, outer-is, lines-none, lines-cons, lines-append)
+pub ruleset steps = (put_all-none, put_all-cons, put_all-append, outer-is, lines-none, lines-cons, lines-append)
 
 -- one line more of a list
 pub lines-more : {X : Type 0} (line : X → Line) (w v u : Writer) (xs : List X) (i : ℕ) (x : X) → i < length xs → x ≡ get_or xs i x
@@ -66,18 +67,18 @@ groups-more lines w v u xs i x h is before here =
 
 -- a part of a line more, after its comma
 pub parts-more : {X : Type 0} (pieces : X → List Piece) (comma : Piece) (w v u t : Writer) (xs : List X) (i : ℕ) (x : X) → i < length xs → x ≡ get_or xs i x
-    → v ≡ after w (flat_map (λ y. comma ∷ pieces y) (take i xs)) → u ≡ put v comma → t ≡ after u (pieces x)
-    → t ≡ after w (flat_map (λ y. comma ∷ pieces y) (take (i + 1) xs))
+    → v ≡ put_all w (flat_map (λ y. comma ∷ pieces y) (take i xs)) → u ≡ put v comma → t ≡ put_all u (pieces x)
+    → t ≡ put_all w (flat_map (λ y. comma ∷ pieces y) (take (i + 1) xs))
 parts-more pieces comma w v u t xs i x h is before put_comma here =
     let f : _ → List Piece = λ y. comma ∷ pieces y in
     let taken = take_more xs i x h ∙ ap (λ y. take i xs ++ y ∷ []) (sym is) in
     let parts = ap (flat_map f) taken ∙ flat_map-append f (take i xs) (x ∷ []) in
     let one : flat_map f (x ∷ []) ≡ comma ∷ pieces x = flat_map-cons f x [] ∙ append-nil (comma ∷ pieces x) in
-    here ∙ ap (λ (z : Writer). after z (pieces x)) (put_comma ∙ ap (λ (z : Writer). put z comma) before)
-    ∙ sym (after-cons (after w (flat_map f (take i xs))) comma (pieces x))
-    ∙ ap (after (after w (flat_map f (take i xs)))) (sym one)
-    ∙ sym (after-append w (flat_map f (take i xs)) (flat_map f (x ∷ [])))
-    ∙ ap (after w) (sym parts)
+    here ∙ ap (λ (z : Writer). put_all z (pieces x)) (put_comma ∙ ap (λ (z : Writer). put z comma) before)
+    ∙ sym (put_all-cons (put_all w (flat_map f (take i xs))) comma (pieces x))
+    ∙ ap (put_all (put_all w (flat_map f (take i xs)))) (sym one)
+    ∙ sym (put_all-append w (flat_map f (take i xs)) (flat_map f (x ∷ [])))
+    ∙ ap (put_all w) (sym parts)
 
 -- five groups of lines
 pub lines-five : (w w1 w2 w3 w4 w5 : Writer) (xs1 xs2 xs3 xs4 xs5 : List Line)
@@ -87,8 +88,9 @@ lines-five w w1 w2 w3 w4 w5 xs1 xs2 xs3 xs4 xs5 h1 h2 h3 h4 h5 = simp lines-appe
 
 -- all parts of a list, the first with no comma
 pub parts-all : {X : Type 0} (pieces : X → List Piece) (w v u : Writer) (xs more : List X) (first : X) (i : ℕ) → xs ≡ first ∷ more → length more ≤ i
-    → v ≡ after w (pieces first) → u ≡ after v (flat_map (λ y. token (codes ",") ∷ pieces y) (take i more)) → u ≡ after w (listed pieces xs)
+    → v ≡ put_all w (pieces first) → u ≡ put_all v (flat_map (λ y. token (codes ",") ∷ pieces y) (take i more))
+    → u ≡ put_all w (listed pieces xs)
 parts-all pieces w v u xs more first i split over head rest =
     let f : _ → List Piece = λ y. token (codes ",") ∷ pieces y in
-    rest ∙ ap (λ l. after v (flat_map f l)) (take_all i more over) ∙ ap (λ (z : Writer). after z (flat_map f more)) head
-    ∙ sym (after-append w (pieces first) (flat_map f more)) ∙ ap (λ l. after w (listed pieces l)) (sym split)
+    rest ∙ ap (λ l. put_all v (flat_map f l)) (take_all i more over) ∙ ap (λ (z : Writer). put_all z (flat_map f more)) head
+    ∙ sym (put_all-append w (pieces first) (flat_map f more)) ∙ ap (λ l. put_all w (listed pieces l)) (sym split)

@@ -1,6 +1,6 @@
 ghost use Rattle.std.specs.Prelude.{◌≡◌, OnOk};
 ghost use Rattle.ft_tree.specs.meaning.Expression.{expr_pieces, history, operand, spelled, truth_word};
-ghost use Rattle.ft_tree.specs.writing.Writer.{after};
+ghost use Rattle.ft_tree.specs.writing.Writer.{put_all};
 
 use crate::expr::Expr;
 use crate::level::Level;
@@ -32,7 +32,7 @@ fn level(expr: &Expr) -> Level
 
 #[tactic(auto, using(crate::proofs::WritingLemmas::steps))]
 fn write_history(writer: &mut Writer, word: &[u8], name: &Text) -> Result<(), NoMemory>
-    ensures { OnOk result (writer.new ≡ after writer.old (history word.now name.now)) }
+    ensures { OnOk result (writer.new ≡ put_all writer.old (history word.now name.now)) }
 {
     writer.put(word)?;
     writer.put(b"(")?;
@@ -44,7 +44,7 @@ fn write_history(writer: &mut Writer, word: &[u8], name: &Text) -> Result<(), No
 #[cycle(expressions)]
 #[tactic(auto, using(crate::proofs::ExprLemmas::expressions), unfolding(crate::specs::meaning::Expression::operand))]
 fn write_operand(writer: &mut Writer, expr: &Expr, needed: Level) -> Result<(), NoMemory>
-    ensures { OnOk result (writer.new ≡ after writer.old (operand needed (spelled expr.now))) }
+    ensures { OnOk result (writer.new ≡ put_all writer.old (operand needed (spelled expr.now))) }
 {
     if level(expr).is_looser(needed) {
         writer.put(b"(")?;
@@ -59,7 +59,7 @@ fn write_operand(writer: &mut Writer, expr: &Expr, needed: Level) -> Result<(), 
 #[cycle(expressions)]
 #[tactic(auto, using(crate::proofs::ExprLemmas::expressions), unfolding(crate::specs::meaning::Expression::operand))]
 pub fn write_expr(writer: &mut Writer, expr: &Expr) -> Result<(), NoMemory>
-    ensures { OnOk result (writer.new ≡ after writer.old (expr_pieces expr.now)) }
+    ensures { OnOk result (writer.new ≡ put_all writer.old (expr_pieces expr.now)) }
 {
     match expr {
         Expr::Num { value, .. } => writer.put_number(*value),

@@ -1,13 +1,13 @@
 ghost use Rattle.std.specs.Prelude.{◌≡◌, OnOk};
 ghost use Rattle.ft_tree.specs.meaning.Line.{outer};
-ghost use Rattle.ft_tree.specs.meaning.Lines.{band_pieces, constant_pieces, ended, enum_type_pieces, held_pieces, hold_pieces, hyst_pieces, item_lines, memory_head, nat_pieces, range_type_pieces, variable_pieces};
-ghost use Rattle.ft_tree.specs.writing.Writer.{after, with_line, with_lines};
+ghost use Rattle.ft_tree.specs.meaning.Lines.{band_pieces, constant_pieces, terminated, enum_type_pieces, held_pieces, hold_pieces, hyst_pieces, item_lines, memory_head, nat_pieces, range_type_pieces, variable_pieces};
+ghost use Rattle.ft_tree.specs.writing.Writer.{put_all, with_line, with_lines};
 
 use crate::expr::Expr;
 use crate::expression::{truth, write_expr};
 use crate::item::{Bound, Item, Kind, NatWord, Number, SectionWord, VarWord, Word};
 use crate::lines::{moment, section, write_var};
-use crate::parts::{Part, write_listed, write_range, write_sign};
+use crate::phrases::{Phrase, write_listed, write_range, write_sign};
 use crate::tables::{write_block, write_table, write_vector};
 use crate::writer::Writer;
 use ft_base::NoMemory;
@@ -19,7 +19,7 @@ fn write_constant(
     minus: bool,
     value: &Number,
 ) -> Result<(), NoMemory>
-    ensures { OnOk result (writer.new ≡ with_line writer.old (outer (ended (constant_pieces name.now minus value.now)))) }
+    ensures { OnOk result (writer.new ≡ with_line writer.old (outer (terminated (constant_pieces name.now minus value.now)))) }
 {
     writer.put(b"const")?;
     writer.put(name.text.as_slice())?;
@@ -36,7 +36,7 @@ fn write_range_type(
     lo: &Bound,
     hi: &Bound,
 ) -> Result<(), NoMemory>
-    ensures { OnOk result (writer.new ≡ with_line writer.old (outer (ended (range_type_pieces name.now lo.now hi.now)))) }
+    ensures { OnOk result (writer.new ≡ with_line writer.old (outer (terminated (range_type_pieces name.now lo.now hi.now)))) }
 {
     writer.put(b"type")?;
     writer.put(name.text.as_slice())?;
@@ -47,7 +47,7 @@ fn write_range_type(
 
 #[tactic(auto, using(crate::proofs::WritingLemmas::steps))]
 fn write_enum_type(writer: &mut Writer, name: &Word, members: &[Word]) -> Result<(), NoMemory>
-    ensures { OnOk result (writer.new ≡ with_line writer.old (outer (ended (enum_type_pieces name.now members.now)))) }
+    ensures { OnOk result (writer.new ≡ with_line writer.old (outer (terminated (enum_type_pieces name.now members.now)))) }
 {
     writer.put(b"type")?;
     writer.put(name.text.as_slice())?;
@@ -66,7 +66,7 @@ fn write_variable(
     of: &Kind,
     init: &Bound,
 ) -> Result<(), NoMemory>
-    ensures { OnOk result (writer.new ≡ with_line writer.old (outer (ended (variable_pieces kind name.now of.now init.now)))) }
+    ensures { OnOk result (writer.new ≡ with_line writer.old (outer (terminated (variable_pieces kind name.now of.now init.now)))) }
 {
     write_var(writer, kind)?;
     writer.put(name.text.as_slice())?;
@@ -84,7 +84,7 @@ fn write_memory_head(
     word: &[u8],
     name: &Word,
 ) -> Result<(), NoMemory>
-    ensures { OnOk result (writer.new ≡ after writer.old (memory_head side word.now name.now)) }
+    ensures { OnOk result (writer.new ≡ put_all writer.old (memory_head side word.now name.now)) }
 {
     writer.put(section(side))?;
     writer.put(word)?;
@@ -94,7 +94,7 @@ fn write_memory_head(
 
 #[tactic(auto, using(crate::proofs::WritingLemmas::steps))]
 fn write_hold(writer: &mut Writer, hold: &Bound) -> Result<(), NoMemory>
-    ensures { OnOk result (writer.new ≡ after writer.old (hold_pieces hold.now)) }
+    ensures { OnOk result (writer.new ≡ put_all writer.old (hold_pieces hold.now)) }
 {
     hold.write(writer)?;
     writer.put(b"ms")?;
@@ -109,7 +109,7 @@ fn write_held(
     cond: &Expr,
     hold: &Bound,
 ) -> Result<(), NoMemory>
-    ensures { OnOk result (writer.new ≡ with_line writer.old (outer (ended (held_pieces side name.now cond.now hold.now)))) }
+    ensures { OnOk result (writer.new ≡ with_line writer.old (outer (terminated (held_pieces side name.now cond.now hold.now)))) }
 {
     write_memory_head(writer, side, b"held", name)?;
     write_expr(writer, cond)?;
@@ -120,7 +120,7 @@ fn write_held(
 
 #[tactic(auto, using(crate::proofs::WritingLemmas::steps))]
 fn write_band(writer: &mut Writer, lo: &Bound, hi: &Bound, start: bool) -> Result<(), NoMemory>
-    ensures { OnOk result (writer.new ≡ after writer.old (band_pieces lo.now hi.now start)) }
+    ensures { OnOk result (writer.new ≡ put_all writer.old (band_pieces lo.now hi.now start)) }
 {
     lo.write(writer)?;
     writer.put(b",")?;
@@ -140,7 +140,7 @@ fn write_hyst(
     hi: &Bound,
     start: bool,
 ) -> Result<(), NoMemory>
-    ensures { OnOk result (writer.new ≡ with_line writer.old (outer (ended (hyst_pieces side name.now term.now lo.now hi.now start)))) }
+    ensures { OnOk result (writer.new ≡ with_line writer.old (outer (terminated (hyst_pieces side name.now term.now lo.now hi.now start)))) }
 {
     write_memory_head(writer, side, b"hyst", name)?;
     write_expr(writer, term)?;
@@ -151,7 +151,7 @@ fn write_hyst(
 
 #[tactic(auto, using(crate::proofs::WritingLemmas::steps))]
 fn write_nat(writer: &mut Writer, word: NatWord, cond: &Expr) -> Result<(), NoMemory>
-    ensures { OnOk result (writer.new ≡ with_line writer.old (outer (ended (nat_pieces word cond.now)))) }
+    ensures { OnOk result (writer.new ≡ with_line writer.old (outer (terminated (nat_pieces word cond.now)))) }
 {
     writer.put(b"nat")?;
     writer.put(moment(word))?;

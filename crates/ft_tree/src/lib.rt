@@ -9,7 +9,7 @@ mod items;
 mod law;
 mod level;
 mod lines;
-mod parts;
+mod phrases;
 mod tables;
 mod tree;
 mod writer;

@@ -1,12 +1,12 @@
 ghost use Rattle.std.specs.Prelude.{◌≡◌, OnOk, map};
 ghost use Rattle.ft_tree.specs.meaning.Line.{Line};
 ghost use Rattle.ft_tree.specs.meaning.Lines.{exprs_line, fact_line, goal_line, moment_text, part_lines, row_line, section_text, shows_line, var_pieces, vrow_line};
-ghost use Rattle.ft_tree.specs.writing.Writer.{after, with_line, with_lines};
+ghost use Rattle.ft_tree.specs.writing.Writer.{put_all, with_line, with_lines};
 
 use crate::expr::Expr;
 use crate::expression::write_expr;
 use crate::item::{FactItem, NatWord, Row, SectionWord, VRow, VarWord, Word};
-use crate::parts::{Part, write_listed};
+use crate::phrases::{Phrase, write_listed};
 use crate::writer::Writer;
 use ft_base::NoMemory;
 
@@ -120,7 +120,7 @@ pub fn write_part(writer: &mut Writer, word: &[u8], names: &[Word]) -> Result<()
 /// The words before a variable's name.
 #[tactic(auto, using(crate::proofs::WritingLemmas::steps))]
 pub fn write_var(writer: &mut Writer, kind: VarWord) -> Result<(), NoMemory>
-    ensures { OnOk result (writer.new ≡ after writer.old (var_pieces kind)) }
+    ensures { OnOk result (writer.new ≡ put_all writer.old (var_pieces kind)) }
 {
     match kind {
         VarWord::Mon => writer.put(b"mon"),

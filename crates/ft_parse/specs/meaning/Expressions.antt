@@ -8,7 +8,7 @@ use Rattle.ft_read.specs.meaning.Limit.{opening, within}
 use Rattle.ft_read.specs.declared.parts.Entry.{Entry}
 use Rattle.ft_read.specs.declared.parts.Operator.{Operator}
 use Rattle.ft_read.specs.meaning.Operators.{two, as_simple, as_product, as_sum, as_relation, as_and, as_or}
-use Rattle.ft_parse.specs.meaning.Language.{Language, Step, either, nothing, repeated, ◌▷◌, token}
+use Rattle.ft_parse.specs.meaning.Language.{Language, Step, alternative, nothing, repeated, ◌▷◌, token}
 
 -- an operator and its right operand
 abbrev pub right_of : Entry → (Lexeme → Option Operator) → Language Expr → Expr → Language Expr
@@ -38,9 +38,9 @@ group entry inner room =
 -- number | name | "true" | "false" | "prev" "(" name ")" | "age" "(" name ")" | "(" expr ")"
 abbrev pub atom : Entry → (Nest → Language Expr) → (room : ℕ) → Language Expr
 atom entry inner room =
-    either (token as_simple (within entry))
-    (either (history entry room (codes "prev") expr.Prev)
-    (either (history entry room (codes "age") expr.Age)
+    alternative (token as_simple (within entry))
+    (alternative (history entry room (codes "prev") expr.Prev)
+    (alternative (history entry room (codes "age") expr.Age)
     (group entry inner room)))
 
 -- a word or sign that opens, and its operand
@@ -49,7 +49,7 @@ prefixed entry room read operand make = token read (opening entry room) ▷ λ p
 
 -- "-" unary | atom
 abbrev pub unary : Entry → (Nest → Language Expr) → (room : ℕ) → Language Expr
-unary entry inner room = either (prefixed entry room (as_sign (codes "-")) (inner signed) expr.Neg) (atom entry inner room)
+unary entry inner room = alternative (prefixed entry room (as_sign (codes "-")) (inner signed) expr.Neg) (atom entry inner room)
 
 -- unary { ( "*" | "div" ) unary }
 abbrev pub product : Entry → (Nest → Language Expr) → (room : ℕ) → Language Expr
@@ -61,11 +61,13 @@ sum entry inner room = chain entry as_sum (product entry inner room)
 
 -- sum [ ( "=" | "<>" | "<" | "<=" | ">" | ">=" ) sum ]
 abbrev pub comparison : Entry → (Nest → Language Expr) → (room : ℕ) → Language Expr
-comparison entry inner room = sum entry inner room ▷ λ left. either (right_of entry as_relation (sum entry inner room) left) (nothing left)
+comparison entry inner room =
+    sum entry inner room ▷ λ left. alternative (right_of entry as_relation (sum entry inner room) left) (nothing left)
 
 -- "not" negation | comparison
 abbrev pub negation : Entry → (Nest → Language Expr) → (room : ℕ) → Language Expr
-negation entry inner room = either (prefixed entry room (as_word (codes "not")) (inner negated) expr.Not) (comparison entry inner room)
+negation entry inner room =
+    alternative (prefixed entry room (as_word (codes "not")) (inner negated) expr.Not) (comparison entry inner room)
 
 -- negation { "and" negation }
 abbrev pub conjunction : Entry → (Nest → Language Expr) → (room : ℕ) → Language Expr

@@ -21,12 +21,12 @@ use Rattle.ft_tree.specs.declared.item.SectionWord.TheVariants as section
 use Rattle.ft_tree.specs.declared.item.NatWord.TheVariants as moment
 use Rattle.ft_tree.specs.declared.item.FactItem.TheVariants as fact
 use Rattle.ft_read.specs.meaning.Lexeme.{as_end, as_name, as_number, as_sign, as_word}
-use Rattle.ft_read.specs.meaning.Limit.{no_pass, alone, counted, counted_at}
+use Rattle.ft_read.specs.meaning.Limit.{no_pass, lexical_passes, counted, counted_at}
 use Rattle.ft_read.specs.declared.parts.SectionAt.{SectionAt}
 use Rattle.ft_read.specs.declared.stop.LimitWord.{LimitWord}
 use Rattle.ft_read.specs.meaning.Choices.{as_plain, as_truth, as_start, as_moment, as_map, as_side, as_var_word}
 use Rattle.ft_read.specs.declared.stop.LimitWord.TheVariants as limit
-use Rattle.ft_parse.specs.meaning.Language.{Language, either, nothing, repeated, ◌▷◌, token}
+use Rattle.ft_parse.specs.meaning.Language.{Language, alternative, nothing, repeated, ◌▷◌, token}
 use Rattle.ft_parse.specs.meaning.Room.{is_full, no_more_facts}
 use Rattle.ft_parse.specs.meaning.Expressions.{expression}
 use Rattle.ft_parse.specs.declared.parts.Parts.{Parts}
@@ -39,11 +39,11 @@ sign text = token (as_sign text) no_pass
 
 -- a number of a declaration
 abbrev pub number : Language Number
-number = token as_number alone
+number = token as_number lexical_passes
 
 -- a name that is used
 abbrev pub name : Language Word
-name = token as_name alone
+name = token as_name lexical_passes
 
 -- the name of an item of a sort, after these items
 abbrev pub declared : Sort → LimitWord → List Item → Language Word
@@ -51,7 +51,7 @@ declared sort which before = token as_name (counted (is_full sort before) which)
 
 -- number | name
 abbrev pub plain_bound : Language Bound
-plain_bound = token as_plain alone
+plain_bound = token as_plain lexical_passes
 
 -- "-" ( number | name )
 abbrev pub minus_bound : Language Bound
@@ -59,11 +59,11 @@ minus_bound = sign (codes "-") ▷ λ place. plain_bound ▷ λ b. nothing (reco
 
 -- [ "-" ] ( number | name )
 abbrev pub bound : Language Bound
-bound = either minus_bound plain_bound
+bound = alternative minus_bound plain_bound
 
 -- bound | "true" | "false"
 abbrev pub value : Language Bound
-value = either (token as_truth no_pass) bound
+value = alternative (token as_truth no_pass) bound
 
 -- what stands after the lower bound of a range: ".." bound
 abbrev pub upper : Language Bound
@@ -71,7 +71,8 @@ upper = sign (codes "..") ▷ λ _. bound
 
 -- a range that begins with "-" or a number, a name alone or as the lower bound of a range, or "bool"
 abbrev pub kind_of_name : Word → Language Kind
-kind_of_name w = either (upper ▷ λ hi. nothing (kind.Range (record { minus = false; value = plain.Name w.text; place = w.place }) hi)) (nothing (kind.Named w))
+kind_of_name w = alternative
+    (upper ▷ λ hi. nothing (kind.Range (record { minus = false; value = plain.Name w.text; place = w.place }) hi)) (nothing (kind.Named w))
 
 abbrev pub range_after : Bound → Language Kind
 range_after lo = upper ▷ λ hi. nothing (kind.Range lo hi)
@@ -81,9 +82,9 @@ number_bound = number ▷ λ n. nothing (record { minus = false; value = plain.N
 
 abbrev pub kind_part : Language Kind
 kind_part =
-    either (word (codes "bool") ▷ λ _. nothing kind.Bool)
-    (either (name ▷ kind_of_name)
-    (either minus_bound number_bound ▷ range_after))
+    alternative (word (codes "bool") ▷ λ _. nothing kind.Bool)
+    (alternative (name ▷ kind_of_name)
+    (alternative minus_bound number_bound ▷ range_after))
 
 -- expr { "," expr }
 abbrev pub more_entries : List Expr → Language (List Expr)
@@ -139,8 +140,8 @@ vector_grid s =
 -- a table after its section
 abbrev pub table : List Item → SectionAt → Language Item
 table before s =
-    either (word (codes "normal") ▷ λ _. grid before (codes "columns") (item.Normal s.word))
-    (either (word (codes "inverted") ▷ λ _. grid before (codes "terms") (item.Inverted s.word))
+    alternative (word (codes "normal") ▷ λ _. grid before (codes "columns") (item.Normal s.word))
+    (alternative (word (codes "inverted") ▷ λ _. grid before (codes "terms") (item.Inverted s.word))
     (token (as_word (codes "vector")) (counted_at (is_full tables before) limit.Tables s.place) ▷ λ _. vector_grid s.word))
 
 -- a variable after its words: name ":" kind "init" value ";"
@@ -171,15 +172,15 @@ hyst before side =
 -- what stands after the word of a side
 abbrev pub sided : List Item → SectionAt → Language Item
 sided before s =
-    either (word (codes "var") ▷ λ _. variable before (inner_variable s.word))
-    (either (word (codes "held") ▷ λ _. held before s.word)
-    (either (word (codes "hyst") ▷ λ _. hyst before s.word)
+    alternative (word (codes "var") ▷ λ _. variable before (inner_variable s.word))
+    (alternative (word (codes "held") ▷ λ _. held before s.word)
+    (alternative (word (codes "hyst") ▷ λ _. hyst before s.word)
     (table before s)))
 
 -- a constant: "const" name "=" [ "-" ] number ";"
 abbrev pub signed_number : Language (Bool × Number)
 signed_number =
-    either (sign (codes "-") ▷ λ _. number ▷ λ n. nothing (true, n)) (number ▷ λ n. nothing (false, n))
+    alternative (sign (codes "-") ▷ λ _. number ▷ λ n. nothing (true, n)) (number ▷ λ n. nothing (false, n))
 
 abbrev pub constant : List Item → Language Item
 constant before =
@@ -196,7 +197,8 @@ range_type w = bound ▷ λ lo. upper ▷ λ hi. nothing (item.RangeType w lo hi
 
 abbrev pub type_item : List Item → Language Item
 type_item before =
-    word (codes "type") ▷ λ _. declared types limit.Types before ▷ λ w. sign (codes "=") ▷ λ _. either (members w) (range_type w) ▷ λ made.
+    word (codes "type") ▷ λ _. declared types limit.Types before ▷ λ w. sign (codes "=") ▷ λ _. alternative (members w)
+    (range_type w) ▷ λ made.
     sign (codes ";") ▷ λ _. nothing made
 
 -- a clause on the environment: "nat" ( "first" | "always" | "step" ) expr ";"
@@ -207,7 +209,7 @@ clause before =
 
 -- a part of a block that may be absent: its word, names ";"
 abbrev pub listed : List ℕ → Language (List Word)
-listed text = either (word text ▷ λ _. names 300 limit.List ▷ λ ws. sign (codes ";") ▷ λ _. nothing ws) (nothing [])
+listed text = alternative (word text ▷ λ _. names 300 limit.List ▷ λ ws. sign (codes ";") ▷ λ _. nothing ws) (nothing [])
 
 -- the name of a fact, after so many facts of the block
 abbrev pub fact_name : List Item → ℕ → Language Word
@@ -216,7 +218,7 @@ fact_name before facts = token as_name (counted (no_more_facts before facts) lim
 -- "shows" name ":" expr ";" | "goal" name ";"
 abbrev pub fact_part : List Item → ℕ → Language FactItem
 fact_part before facts =
-    either (word (codes "shows") ▷ λ _. fact_name before facts ▷ λ w. sign (codes ":") ▷ λ _. expression false ▷ λ cond.
+    alternative (word (codes "shows") ▷ λ _. fact_name before facts ▷ λ w. sign (codes ":") ▷ λ _. expression false ▷ λ cond.
     sign (codes ";") ▷ λ _. nothing (fact.Shows w cond))
     (word (codes "goal") ▷ λ _. fact_name before facts ▷ λ w. sign (codes ";") ▷ λ _. nothing (fact.Goal w))
 
@@ -230,12 +232,12 @@ block before =
 -- an item, after these
 abbrev pub item_part : List Item → Language Item
 item_part before =
-    either (constant before)
-    (either (type_item before)
-    (either (token as_var_word no_pass ▷ variable before)
-    (either (token as_side no_pass ▷ sided before)
-    (either (token as_map no_pass ▷ table before)
-    (either (clause before)
+    alternative (constant before)
+    (alternative (type_item before)
+    (alternative (token as_var_word no_pass ▷ variable before)
+    (alternative (token as_side no_pass ▷ sided before)
+    (alternative (token as_map no_pass ▷ table before)
+    (alternative (clause before)
     (block before))))))
 
 abbrev pub more_items : List Item → Language (List Item)
@@ -243,7 +245,7 @@ more_items before = item_part before ▷ λ made. nothing (before ++ made ∷ []
 
 -- a number that may be absent: its word, number ";"
 abbrev pub setting : List ℕ → Language (Option Number)
-setting text = either (word text ▷ λ _. number ▷ λ n. sign (codes ";") ▷ λ _. nothing (Some n)) (nothing None)
+setting text = alternative (word text ▷ λ _. number ▷ λ n. sign (codes ";") ▷ λ _. nothing (Some n)) (nothing None)
 
 -- "set" name ";" "period" number "ms" ";" [ "splits" number ";" ] [ "depth" number ";" ] { item }, and the text's end
 abbrev pub set : Language Parts

@@ -40,8 +40,8 @@ unfoldable pub ◌▷◌ : {A B : Type 0} → Language A → (A → Language B) 
     (a : A) × (before after : List Step) × (steps ≡ before ++ after) × first at before a × next a (at + length before) after b
 
 -- the one or the other
-abbrev pub either : {A : Type 0} → Language A → Language A → Language A
-either one other at steps a = one at steps a ⊎ other at steps a
+abbrev pub alternative : {A : Type 0} → Language A → Language A → Language A
+alternative one other at steps a = one at steps a ⊎ other at steps a
 
 -- a part so many times, each time going on from what was made so far
 unfoldable pub times : {A : Type 0} → ℕ → (A → Language A) → A → Language A

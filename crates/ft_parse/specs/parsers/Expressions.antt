@@ -9,7 +9,7 @@ use Rattle.ft_read.specs.declared.parts.Entry.{Entry}
 use Rattle.ft_read.specs.declared.parts.Operator.{Operator}
 use Rattle.ft_parse.specs.meaning.Expressions.{Nest, negated, signed, whole}
 use Rattle.ft_read.specs.meaning.Operators.{as_and, as_or, as_product, as_relation, as_simple, as_sum, two}
-use Rattle.ft_read.specs.parsers.Combinators.{Outcome, Parser, can, either_by, give, read_token, seen, ◌▶◌}
+use Rattle.ft_read.specs.parsers.Combinators.{Outcome, Parser, can, alternative_by, give, read_token, state, ◌▶◌}
 use Rattle.ft_parse.specs.parsers.Repetition.{many}
 use Rattle.ft_read.specs.declared.stop.Stop.TheVariants.{Syntax}
 
@@ -30,9 +30,9 @@ group_by entry inner room =
 
 unfoldable pub atom_by : Entry → (Nest → Parser Expr) → (room : ℕ) → Parser Expr
 atom_by entry inner room =
-    either_by (can as_simple) (read_token as_simple (within entry))
-    (either_by (can (as_word (codes "prev"))) (history_by entry room (codes "prev") expr.Prev)
-    (either_by (can (as_word (codes "age"))) (history_by entry room (codes "age") expr.Age)
+    alternative_by (can as_simple) (read_token as_simple (within entry))
+    (alternative_by (can (as_word (codes "prev"))) (history_by entry room (codes "prev") expr.Prev)
+    (alternative_by (can (as_word (codes "age"))) (history_by entry room (codes "age") expr.Age)
     (group_by entry inner room)))
 
 unfoldable pub prefixed_by : Entry → (room : ℕ) → (Lexeme → Option Place) → Parser Expr → (Expr → Place → Expr) → Parser Expr
@@ -40,7 +40,8 @@ prefixed_by entry room read operand make = read_token read (opening entry room) 
 
 unfoldable pub unary_by : Entry → (Nest → Parser Expr) → (room : ℕ) → Parser Expr
 unary_by entry inner room =
-    either_by (can (as_sign (codes "-"))) (prefixed_by entry room (as_sign (codes "-")) (inner signed) expr.Neg) (atom_by entry inner room)
+    alternative_by (can (as_sign (codes "-"))) (prefixed_by entry room (as_sign (codes "-")) (inner signed) expr.Neg)
+    (atom_by entry inner room)
 
 unfoldable pub product_by : Entry → (Nest → Parser Expr) → (room : ℕ) → Parser Expr
 product_by entry inner room = chain_by entry as_product (unary_by entry inner room)
@@ -50,11 +51,13 @@ sum_by entry inner room = chain_by entry as_sum (product_by entry inner room)
 
 unfoldable pub comparison_by : Entry → (Nest → Parser Expr) → (room : ℕ) → Parser Expr
 comparison_by entry inner room =
-    sum_by entry inner room ▶ λ left. either_by (can as_relation) (right_by entry as_relation (sum_by entry inner room) left) (give left)
+    sum_by entry inner room ▶ λ left. alternative_by (can as_relation) (right_by entry as_relation (sum_by entry inner room) left)
+    (give left)
 
 unfoldable pub negation_by : Entry → (Nest → Parser Expr) → (room : ℕ) → Parser Expr
 negation_by entry inner room =
-    either_by (can (as_word (codes "not"))) (prefixed_by entry room (as_word (codes "not")) (inner negated) expr.Not) (comparison_by entry inner room)
+    alternative_by (can (as_word (codes "not"))) (prefixed_by entry room (as_word (codes "not")) (inner negated) expr.Not)
+    (comparison_by entry inner room)
 
 unfoldable pub conjunction_by : Entry → (Nest → Parser Expr) → (room : ℕ) → Parser Expr
 conjunction_by entry inner room = chain_by entry as_and (negation_by entry inner room)
@@ -76,8 +79,9 @@ nested_by zero entry nest s = layer_by entry refuse zero nest s
 nested_by (suc room) entry nest s = layer_by entry (nested_by room entry) (suc room) nest s
 
 abbrev pub expression_from : (is_beyond : Bool) → ℕ → List Lexeme → Outcome Expr
-expression_from is_beyond at [] = (Err Syntax, seen at [])
-expression_from is_beyond at (l ∷ rest) = nested_by 64 (record { before = at; start = l.place; is_beyond = is_beyond }) whole (seen at (l ∷ rest))
+expression_from is_beyond at [] = (Err Syntax, state at [])
+expression_from is_beyond at (l ∷ rest) =
+    nested_by 64 (record { before = at; start = l.place; is_beyond = is_beyond }) whole (state at (l ∷ rest))
 
 unfoldable pub expression_by : (is_beyond : Bool) → Parser Expr
 expression_by is_beyond s = expression_from is_beyond s.at s.rest

@@ -13,11 +13,10 @@ use Rattle.ft_tree.specs.declared.item.Item.{Item}
 use Rattle.ft_tree.specs.meaning.Limits.{Sort, constants, types, variables, memories, tables, clauses, blocks}
 use Rattle.ft_tree.specs.declared.item.Item.TheVariants as item
 use Rattle.ft_tree.specs.declared.item.FactItem.TheVariants as fact
-use Rattle.ft_read.specs.meaning.Lexeme.{Lexeme, as_end, as_name, as_sign, as_word}
+use Rattle.ft_read.specs.meaning.Lexeme.{Lexeme, as_end, as_name, as_sign, as_word, or_else}
 use Rattle.ft_read.specs.meaning.Limit.{no_pass, counted, counted_at}
-use Rattle.ft_read.specs.parsers.Combinators.{Parser, can, either_by, give, read_token, ◌▶◌}
+use Rattle.ft_read.specs.parsers.Combinators.{Parser, can, alternative_by, give, read_token, ◌▶◌}
 use Rattle.ft_read.specs.meaning.Choices.{as_map, as_moment, as_side, as_start, as_var_word}
-use Rattle.ft_read.specs.meaning.Operators.{or_else}
 use Rattle.ft_read.specs.declared.parts.SectionAt.{SectionAt}
 use Rattle.ft_read.specs.declared.stop.LimitWord.{LimitWord}
 use Rattle.ft_read.specs.parsers.Parts.{sign_by, name_by, word_by, value_by, kind_part_by, plain_bound_by, bound_by, number_by, upper_by}
@@ -85,8 +84,8 @@ vector_grid_by s =
 
 unfoldable pub table_by : List Item → SectionAt → Parser Item
 table_by before s =
-    either_by (can (as_word (codes "normal"))) (word_by (codes "normal") ▶ λ _. grid_by before (codes "columns") (item.Normal s.word))
-    (either_by (can (as_word (codes "inverted"))) (word_by (codes "inverted") ▶ λ _. grid_by before (codes "terms") (item.Inverted s.word))
+    alternative_by (can (as_word (codes "normal"))) (word_by (codes "normal") ▶ λ _. grid_by before (codes "columns") (item.Normal s.word))
+    (alternative_by (can (as_word (codes "inverted"))) (word_by (codes "inverted") ▶ λ _. grid_by before (codes "terms") (item.Inverted s.word))
     (read_token (as_word (codes "vector")) (counted_at (is_full tables before) limit.Tables s.place) ▶ λ _. vector_grid_by s.word))
 
 unfoldable pub variable_by : List Item → VarWord → Parser Item
@@ -107,14 +106,15 @@ hyst_by before side =
 
 unfoldable pub sided_by : List Item → SectionAt → Parser Item
 sided_by before s =
-    either_by (can (as_word (codes "var"))) (word_by (codes "var") ▶ λ _. variable_by before (inner_variable s.word))
-    (either_by (can (as_word (codes "held"))) (word_by (codes "held") ▶ λ _. held_by before s.word)
-    (either_by (can (as_word (codes "hyst"))) (word_by (codes "hyst") ▶ λ _. hyst_by before s.word)
+    alternative_by (can (as_word (codes "var"))) (word_by (codes "var") ▶ λ _. variable_by before (inner_variable s.word))
+    (alternative_by (can (as_word (codes "held"))) (word_by (codes "held") ▶ λ _. held_by before s.word)
+    (alternative_by (can (as_word (codes "hyst"))) (word_by (codes "hyst") ▶ λ _. hyst_by before s.word)
     (table_by before s)))
 
 unfoldable pub signed_number_by : Parser (Bool × Number)
 signed_number_by =
-    either_by (can (as_sign (codes "-"))) (sign_by (codes "-") ▶ λ _. number_by ▶ λ n. give (true, n)) (number_by ▶ λ n. give (false, n))
+    alternative_by (can (as_sign (codes "-"))) (sign_by (codes "-") ▶ λ _. number_by ▶ λ n. give (true, n))
+    (number_by ▶ λ n. give (false, n))
 
 unfoldable pub constant_by : List Item → Parser Item
 constant_by before =
@@ -130,7 +130,8 @@ range_type_by w = bound_by ▶ λ lo. upper_by ▶ λ hi. give (item.RangeType w
 
 unfoldable pub type_item_by : List Item → Parser Item
 type_item_by before =
-    word_by (codes "type") ▶ λ _. declared_by types limit.Types before ▶ λ w. sign_by (codes "=") ▶ λ _. either_by (can (as_sign (codes "{"))) (members_by w) (range_type_by w) ▶ λ made.
+    word_by (codes "type") ▶ λ _. declared_by types limit.Types before ▶ λ w. sign_by (codes "=") ▶ λ _. alternative_by
+    (can (as_sign (codes "{"))) (members_by w) (range_type_by w) ▶ λ made.
     sign_by (codes ";") ▶ λ _. give made
 
 unfoldable pub clause_by : List Item → Parser Item
@@ -139,14 +140,16 @@ clause_by before =
     sign_by (codes ";") ▶ λ _. give (item.Nat moment cond)
 
 unfoldable pub listed_by : List ℕ → Parser (List Word)
-listed_by text = either_by (can (as_word text)) (word_by text ▶ λ _. names_by 300 limit.List ▶ λ ws. sign_by (codes ";") ▶ λ _. give ws) (give [])
+listed_by text = alternative_by (can (as_word text))
+    (word_by text ▶ λ _. names_by 300 limit.List ▶ λ ws. sign_by (codes ";") ▶ λ _. give ws) (give [])
 
 unfoldable pub fact_name_by : List Item → ℕ → Parser Word
 fact_name_by before facts = read_token as_name (counted (no_more_facts before facts) limit.Facts)
 
 unfoldable pub fact_part_by : List Item → ℕ → Parser FactItem
 fact_part_by before facts =
-    either_by (can (as_word (codes "shows"))) (word_by (codes "shows") ▶ λ _. fact_name_by before facts ▶ λ w. sign_by (codes ":") ▶ λ _. expression_by false ▶ λ cond.
+    alternative_by (can (as_word (codes "shows")))
+    (word_by (codes "shows") ▶ λ _. fact_name_by before facts ▶ λ w. sign_by (codes ":") ▶ λ _. expression_by false ▶ λ cond.
     sign_by (codes ";") ▶ λ _. give (fact.Shows w cond))
     (word_by (codes "goal") ▶ λ _. fact_name_by before facts ▶ λ w. sign_by (codes ";") ▶ λ _. give (fact.Goal w))
 
@@ -158,19 +161,20 @@ block_by before =
 
 unfoldable pub item_part_by : List Item → Parser Item
 item_part_by before =
-    either_by (can (as_word (codes "const"))) (constant_by before)
-    (either_by (can (as_word (codes "type"))) (type_item_by before)
-    (either_by (can as_var_word) (read_token as_var_word no_pass ▶ variable_by before)
-    (either_by (can as_side) (read_token as_side no_pass ▶ sided_by before)
-    (either_by (can as_map) (read_token as_map no_pass ▶ table_by before)
-    (either_by (can (as_word (codes "nat"))) (clause_by before)
+    alternative_by (can (as_word (codes "const"))) (constant_by before)
+    (alternative_by (can (as_word (codes "type"))) (type_item_by before)
+    (alternative_by (can as_var_word) (read_token as_var_word no_pass ▶ variable_by before)
+    (alternative_by (can as_side) (read_token as_side no_pass ▶ sided_by before)
+    (alternative_by (can as_map) (read_token as_map no_pass ▶ table_by before)
+    (alternative_by (can (as_word (codes "nat"))) (clause_by before)
     (block_by before))))))
 
 unfoldable pub more_items_by : List Item → Parser (List Item)
 more_items_by before = item_part_by before ▶ λ made. give (before ++ made ∷ [])
 
 unfoldable pub setting_by : List ℕ → Parser (Option Number)
-setting_by text = either_by (can (as_word text)) (word_by text ▶ λ _. number_by ▶ λ n. sign_by (codes ";") ▶ λ _. give (Some n)) (give None)
+setting_by text = alternative_by (can (as_word text)) (word_by text ▶ λ _. number_by ▶ λ n. sign_by (codes ";") ▶ λ _. give (Some n))
+    (give None)
 
 unfoldable pub set_by : Parser Parts
 set_by =

@@ -1,4 +1,4 @@
--- Steps of the readings that are named here alone.
+-- Steps of parsers that are named here alone.
 use Rattle.std.specs.Prelude.{ℕ, Bool, false, List, [], ◌∷◌, ◌++◌, codes, length}
 use Rattle.ft_tree.specs.declared.expr.Expr.{Expr}
 use Rattle.ft_tree.specs.declared.item.Bound.{Bound}
@@ -10,7 +10,7 @@ use Rattle.ft_read.specs.meaning.Lexeme.{as_word}
 use Rattle.ft_read.specs.meaning.Limit.{counted_at, no_pass}
 use Rattle.ft_read.specs.meaning.Choices.{as_map, as_side, as_start, as_var_word}
 use Rattle.ft_read.specs.parsers.Parts.{bound_by, name_by, number_by, sign_by, word_by}
-use Rattle.ft_read.specs.parsers.Combinators.{Parser, can, either_by, give, read_token, ◌▶◌}
+use Rattle.ft_read.specs.parsers.Combinators.{Parser, can, alternative_by, give, read_token, ◌▶◌}
 use Rattle.ft_read.specs.declared.parts.SectionAt.{SectionAt}
 use Rattle.ft_read.specs.declared.stop.LimitWord.TheVariants as limit
 use Rattle.ft_parse.specs.meaning.Room.{is_full}
@@ -41,10 +41,10 @@ limits_by = bound_by ▶ λ lo. sign_by (codes ",") ▶ λ _. bound_by ▶ λ hi
 -- an item that begins with words for a variable, a side or a map, a clause, or a block
 abbrev pub worded_by : List Item → Parser Item
 worded_by before =
-    either_by (can as_var_word) (read_token as_var_word no_pass ▶ variable_by before)
-    (either_by (can as_side) (read_token as_side no_pass ▶ sided_by before)
-    (either_by (can as_map) (read_token as_map no_pass ▶ table_by before)
-    (either_by (can (as_word (codes "nat"))) (clause_by before)
+    alternative_by (can as_var_word) (read_token as_var_word no_pass ▶ variable_by before)
+    (alternative_by (can as_side) (read_token as_side no_pass ▶ sided_by before)
+    (alternative_by (can as_map) (read_token as_map no_pass ▶ table_by before)
+    (alternative_by (can (as_word (codes "nat"))) (clause_by before)
     (block_by before))))
 
 -- a set's name and its period

@@ -8,8 +8,7 @@ use Rattle.ft_tree.specs.declared.item.Plain.TheVariants as plain
 use Rattle.ft_tree.specs.declared.item.SectionWord.TheVariants as section
 use Rattle.ft_tree.specs.declared.item.VarWord.TheVariants as var
 use Rattle.ft_tree.specs.declared.item.NatWord.TheVariants as moment
-use Rattle.ft_read.specs.meaning.Lexeme.{Lexeme, as_name, as_number, as_word}
-use Rattle.ft_read.specs.meaning.Operators.{or_else}
+use Rattle.ft_read.specs.meaning.Lexeme.{Lexeme, as_name, as_number, as_word, or_else}
 use Rattle.ft_read.specs.declared.parts.SectionAt.{SectionAt}
 
 -- a choice of words

@@ -62,3 +62,8 @@ as_end lexeme = elim lexeme.kind [
   | kind.End ↦ Some lexeme.place
   | kind.Bad ↦ None
 ]
+
+-- the first of two, where there is one
+abbrev pub or_else : {A : Type 0} → Option A → Option A → Option A
+or_else (Some a) other = Some a
+or_else None other = other

@@ -4,7 +4,7 @@ use Rattle.ft_base.specs.declared.place.Place.{Place}
 use Rattle.ft_base.specs.Digits.{decimal_value}
 use Rattle.ft_lex.specs.declared.token.TokenKind.{TokenKind}
 use Rattle.ft_lex.specs.declared.token.TokenKind.TheVariants as kind
-use Rattle.ft_read.specs.meaning.Lexeme.{Lexeme}
+use Rattle.ft_read.specs.meaning.Lexeme.{Lexeme, or_else}
 use Rattle.ft_read.specs.declared.parts.Entry.{Entry}
 use Rattle.ft_read.specs.declared.stop.LimitWord.{LimitWord}
 use Rattle.ft_read.specs.declared.stop.Pass.{Pass}
@@ -19,11 +19,6 @@ no_pass at lexeme = None
 
 abbrev pub pass : LimitWord → Place → Pass
 pass which place = record { which = which; place = place }
-
--- the first of these that is passed
-abbrev pub first_of : Option Pass → Option Pass → Option Pass
-first_of (Some one) other = Some one
-first_of None other = other
 
 abbrev pub where_so : Bool → LimitWord → Place → Option Pass
 where_so true which place = Some (pass which place)
@@ -54,20 +49,21 @@ abbrev pub is_great_number : Lexeme → Bool
 is_great_number lexeme = is_number_kind lexeme.kind && not (nat_le (decimal_value lexeme.text) 1000000000)
 
 -- of the token by itself
-abbrev pub own_pass : Lexeme → Option Pass
-own_pass lexeme = first_of (where_so (is_long_name lexeme) limit.Name lexeme.place) (where_so (is_great_number lexeme) limit.Number lexeme.place)
+abbrev pub lexical_pass : Lexeme → Option Pass
+lexical_pass lexeme =
+    or_else (where_so (is_long_name lexeme) limit.Name lexeme.place) (where_so (is_great_number lexeme) limit.Number lexeme.place)
 
 -- a token that passes no limit but those of names and numbers
-abbrev pub alone : Passes
-alone at lexeme = own_pass lexeme
+abbrev pub lexical_passes : Passes
+lexical_passes at lexeme = lexical_pass lexeme
 
 -- a token that passes this limit, where there is no room for what it begins or names
 abbrev pub counted : Bool → LimitWord → Passes
-counted is_full which at lexeme = first_of (own_pass lexeme) (where_so is_full which lexeme.place)
+counted is_full which at lexeme = or_else (lexical_pass lexeme) (where_so is_full which lexeme.place)
 
 -- the same, where the limit is told at another place
 abbrev pub counted_at : Bool → LimitWord → Place → Passes
-counted_at is_full which place at lexeme = first_of (own_pass lexeme) (where_so is_full which place)
+counted_at is_full which place at lexeme = or_else (lexical_pass lexeme) (where_so is_full which place)
 
 -- the first token of an entry too many
 abbrev pub is_extra : Entry → ℕ → Bool
@@ -80,8 +76,9 @@ is_late entry at = nat_le (entry.before + 1000) at
 -- a token of an expression
 abbrev pub within : Entry → Passes
 within entry at lexeme =
-    first_of (own_pass lexeme) (first_of (where_so (is_extra entry at) limit.Columns lexeme.place) (where_so (is_late entry at) limit.Expression entry.start))
+    or_else (lexical_pass lexeme)
+    (or_else (where_so (is_extra entry at) limit.Columns lexeme.place) (where_so (is_late entry at) limit.Expression entry.start))
 
 -- a `(`, a `not` or a `-` before an operand, where so many more may open
 abbrev pub opening : Entry → (room : ℕ) → Passes
-opening entry room at lexeme = first_of (within entry at lexeme) (where_so (nat_eq room 0) limit.Nesting lexeme.place)
+opening entry room at lexeme = or_else (within entry at lexeme) (where_so (nat_eq room 0) limit.Nesting lexeme.place)

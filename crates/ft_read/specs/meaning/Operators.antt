@@ -5,16 +5,12 @@ use Rattle.ft_tree.specs.declared.expr.Op.{Op}
 use Rattle.ft_tree.specs.declared.expr.Op.TheVariants.{Or, And, Eq, Ne, Lt, Le, Gt, Ge, Add, Sub, Mul, Div}
 use Rattle.ft_tree.specs.declared.expr.Expr.{Expr}
 use Rattle.ft_tree.specs.declared.expr.Expr.TheVariants as expr
-use Rattle.ft_read.specs.meaning.Lexeme.{Lexeme, as_name, as_number, as_sign, as_word}
+use Rattle.ft_read.specs.meaning.Lexeme.{Lexeme, as_name, as_number, as_sign, as_word, or_else}
 use Rattle.ft_read.specs.declared.parts.Operator.{Operator}
 
 abbrev pub operator : Op → Option Place → Option Operator
 operator op None = None
 operator op (Some place) = Some (record { op = op; place = place })
-
-abbrev pub or_else : {A : Type 0} → Option A → Option A → Option A
-or_else (Some a) other = Some a
-or_else None other = other
 
 abbrev pub as_or : Lexeme → Option Operator
 as_or lexeme = operator Or (as_word (codes "or") lexeme)

@@ -8,8 +8,8 @@ use Rattle.ft_tree.specs.declared.item.Kind.{Kind}
 use Rattle.ft_tree.specs.declared.item.Plain.TheVariants as plain
 use Rattle.ft_tree.specs.declared.item.Kind.TheVariants as kind
 use Rattle.ft_read.specs.meaning.Lexeme.{as_name, as_number, as_sign, as_word}
-use Rattle.ft_read.specs.meaning.Limit.{no_pass, alone}
-use Rattle.ft_read.specs.parsers.Combinators.{Parser, can, either_by, give, read_token, ◌▶◌}
+use Rattle.ft_read.specs.meaning.Limit.{no_pass, lexical_passes}
+use Rattle.ft_read.specs.parsers.Combinators.{Parser, can, alternative_by, give, read_token, ◌▶◌}
 use Rattle.ft_read.specs.meaning.Choices.{as_plain, as_truth}
 
 unfoldable pub word_by : List ℕ → Parser Place
@@ -19,28 +19,29 @@ unfoldable pub sign_by : List ℕ → Parser Place
 sign_by text = read_token (as_sign text) no_pass
 
 unfoldable pub number_by : Parser Number
-number_by = read_token as_number alone
+number_by = read_token as_number lexical_passes
 
 unfoldable pub name_by : Parser Word
-name_by = read_token as_name alone
+name_by = read_token as_name lexical_passes
 
 unfoldable pub plain_bound_by : Parser Bound
-plain_bound_by = read_token as_plain alone
+plain_bound_by = read_token as_plain lexical_passes
 
 unfoldable pub minus_bound_by : Parser Bound
 minus_bound_by = sign_by (codes "-") ▶ λ place. plain_bound_by ▶ λ b. give (record { minus = true; value = b.value; place = place })
 
 unfoldable pub bound_by : Parser Bound
-bound_by = either_by (can (as_sign (codes "-"))) minus_bound_by plain_bound_by
+bound_by = alternative_by (can (as_sign (codes "-"))) minus_bound_by plain_bound_by
 
 unfoldable pub value_by : Parser Bound
-value_by = either_by (can as_truth) (read_token as_truth no_pass) bound_by
+value_by = alternative_by (can as_truth) (read_token as_truth no_pass) bound_by
 
 unfoldable pub upper_by : Parser Bound
 upper_by = sign_by (codes "..") ▶ λ _. bound_by
 
 unfoldable pub kind_of_name_by : Word → Parser Kind
-kind_of_name_by w = either_by (can (as_sign (codes ".."))) (upper_by ▶ λ hi. give (kind.Range (record { minus = false; value = plain.Name w.text; place = w.place }) hi)) (give (kind.Named w))
+kind_of_name_by w = alternative_by (can (as_sign (codes "..")))
+    (upper_by ▶ λ hi. give (kind.Range (record { minus = false; value = plain.Name w.text; place = w.place }) hi)) (give (kind.Named w))
 
 unfoldable pub range_after_by : Bound → Parser Kind
 range_after_by lo = upper_by ▶ λ hi. give (kind.Range lo hi)
@@ -50,6 +51,6 @@ number_bound_by = number_by ▶ λ n. give (record { minus = false; value = plai
 
 unfoldable pub kind_part_by : Parser Kind
 kind_part_by =
-    either_by (can (as_word (codes "bool"))) (word_by (codes "bool") ▶ λ _. give kind.Bool)
-    (either_by (can as_name) (name_by ▶ kind_of_name_by)
-    (either_by (can (as_sign (codes "-"))) minus_bound_by number_bound_by ▶ range_after_by))
+    alternative_by (can (as_word (codes "bool"))) (word_by (codes "bool") ▶ λ _. give kind.Bool)
+    (alternative_by (can as_name) (name_by ▶ kind_of_name_by)
+    (alternative_by (can (as_sign (codes "-"))) minus_bound_by number_bound_by ▶ range_after_by))

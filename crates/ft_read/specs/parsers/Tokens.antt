@@ -2,13 +2,13 @@
 use Rattle.std.specs.Prelude.{Option, false, codes, true, Some, None}
 use Rattle.ft_tree.specs.declared.expr.Expr.{Expr}
 use Rattle.ft_tree.specs.declared.expr.Expr.TheVariants as expr
-use Rattle.ft_read.specs.meaning.Lexeme.{Lexeme, as_word}
-use Rattle.ft_read.specs.meaning.Operators.{as_and, as_or, as_product, as_relation, as_sum, or_else}
+use Rattle.ft_read.specs.meaning.Lexeme.{Lexeme, as_word, or_else}
+use Rattle.ft_read.specs.meaning.Operators.{as_and, as_or, as_product, as_relation, as_sum}
 use Rattle.ft_read.specs.declared.parts.Operator.{Operator}
-use Rattle.ft_read.specs.declared.operators.Level.{Level}
-use Rattle.ft_read.specs.declared.operators.Level.TheVariants.{Disjunction, Conjunction, Comparison, Sum, Product}
+use Rattle.ft_read.specs.declared.operators.Precedence.{Precedence}
+use Rattle.ft_read.specs.declared.operators.Precedence.TheVariants.{Disjunction, Conjunction, Comparison, Sum, Product}
 
-abbrev pub ops_of : Level → Lexeme → Option Operator
+abbrev pub ops_of : Precedence → Lexeme → Option Operator
 ops_of Disjunction = as_or
 ops_of Conjunction = as_and
 ops_of Comparison = as_relation

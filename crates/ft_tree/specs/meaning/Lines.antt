@@ -80,23 +80,23 @@ moment_text Always = codes "always"
 moment_text Step = codes "step"
 
 -- tokens that `;` ends
-abbrev pub ended : List Piece → List Piece
-ended pieces = pieces ++ token (codes ";") ∷ []
+abbrev pub terminated : List Piece → List Piece
+terminated pieces = pieces ++ token (codes ";") ∷ []
 
 abbrev pub exprs_line : List ℕ → List Expr → Line
-exprs_line word exprs = inner (token word ∷ ended (exprs_pieces exprs))
+exprs_line word exprs = inner (token word ∷ terminated (exprs_pieces exprs))
 
 abbrev pub row_line : Row → Line
-row_line row = inner (token (codes "row") ∷ (expr_pieces row.head ++ token (codes ":") ∷ ended (exprs_pieces row.entries)))
+row_line row = inner (token (codes "row") ∷ (expr_pieces row.head ++ token (codes ":") ∷ terminated (exprs_pieces row.entries)))
 
 abbrev pub vrow_line : VRow → Line
-vrow_line row = inner (token (codes "row") ∷ token row.target.text ∷ token (codes ":") ∷ ended (exprs_pieces row.entries))
+vrow_line row = inner (token (codes "row") ∷ token row.target.text ∷ token (codes ":") ∷ terminated (exprs_pieces row.entries))
 
 abbrev pub shows_line : Word → Expr → Line
-shows_line name cond = inner (token (codes "shows") ∷ token name.text ∷ token (codes ":") ∷ ended (expr_pieces cond))
+shows_line name cond = inner (token (codes "shows") ∷ token name.text ∷ token (codes ":") ∷ terminated (expr_pieces cond))
 
 abbrev pub goal_line : Word → Line
-goal_line con = inner (token (codes "goal") ∷ ended (word_pieces con))
+goal_line con = inner (token (codes "goal") ∷ terminated (word_pieces con))
 
 abbrev pub fact_line : FactItem → Line
 fact_line (Shows name cond) = shows_line name cond
@@ -105,7 +105,7 @@ fact_line (Goal con) = goal_line con
 -- a part of a block that isn't there where it has no names
 abbrev pub part_lines : List ℕ → List Word → List Line
 part_lines word [] = []
-part_lines word (first ∷ more) = inner (token word ∷ ended (names_pieces (first ∷ more))) ∷ []
+part_lines word (first ∷ more) = inner (token word ∷ terminated (names_pieces (first ∷ more))) ∷ []
 
 -- the last line of a table or block
 abbrev pub brace_line : Line
@@ -127,7 +127,7 @@ block_lines name takes uses facts =
     body_lines (token (codes "block") ∷ token name.text ∷ []) (part_lines (codes "takes") takes ++ (part_lines (codes "uses") uses ++ map fact_line facts))
 
 abbrev pub one_line : List Piece → List Line
-one_line pieces = outer (ended pieces) ∷ []
+one_line pieces = outer (terminated pieces) ∷ []
 
 abbrev pub constant_pieces : Word → Bool → Number → List Piece
 constant_pieces name sign value = token (codes "const") ∷ token name.text ∷ token (codes "=") ∷ (sign_pieces sign ++ token (decimal value.value) ∷ [])

@@ -23,9 +23,9 @@ unfoldable pub put : Writer → Piece → Writer
 put w piece = record w { text = (w.text ++ gap_of w.last piece) ++ piece_text piece; last = last_of piece }
 
 -- tokens more
-unfoldable pub after : Writer → List Piece → Writer
-after w [] = w
-after w (piece ∷ more) = after (put w piece) more
+unfoldable pub put_all : Writer → List Piece → Writer
+put_all w [] = w
+put_all w (piece ∷ more) = put_all (put w piece) more
 
 -- a line that may be an inner one begins
 unfoldable pub indented : Bool → Writer → Writer
@@ -38,7 +38,7 @@ closed w = record w { text = w.text ++ 10 ∷ []; last = Start }
 
 -- a line more
 abbrev pub with_line : Writer → Line → Writer
-with_line w line = closed (after (indented line.is_inner w) line.pieces)
+with_line w line = closed (put_all (indented line.is_inner w) line.pieces)
 
 -- lines more
 unfoldable pub with_lines : Writer → List Line → Writer

@@ -1,17 +1,17 @@
 use Rattle.std.proofs.Common.{rules, ◌≡◌, true, Ok}
-use Rattle.ft_parse.specs.parsers.Levels.{inner_by, operand_by}
+use Rattle.ft_parse.specs.parsers.Precedence.{inner_by, operand_by}
 use Rattle.ft_read.specs.parsers.Tokens.{ops_of}
 use Rattle.ft_read.specs.parsers.Combinators.{begins, can}
 use Rattle.ft_parse.specs.parsers.Expressions.{right_by}
-use Rattle.ft_parse.proofs.LevelLemmas.{chain_less, of_conjunctions, of_products, of_sums}
+use Rattle.ft_parse.proofs.PrecedenceLemmas.{chain_less, of_conjunctions, of_products, of_sums}
 use Rattle.ft_parse.proofs.expressions.+expression.Goals as goal
 
 pub chain-loop-alloc-smaller : goal.chain-loop-alloc-smaller
 chain-loop-alloc-smaller t c =
-    let tested : begins (can (ops_of c.args.level)) c.loop-alloc.cursor.rest ≡ true = search rules in
-    let read : right_by c.args.entry (ops_of c.args.level) (operand_by c.args.level c.args.entry (inner_by c.args.room c.args.entry) c.args.room) c.loop-alloc.left c.loop-alloc.cursor
+    let tested : begins (can (ops_of c.args.precedence)) c.loop-alloc.cursor.rest ≡ true = search rules in
+    let read : right_by c.args.entry (ops_of c.args.precedence) (operand_by c.args.precedence c.args.entry (inner_by c.args.room c.args.entry) c.args.room) c.loop-alloc.left c.loop-alloc.cursor
     ≡ (Ok c.in_ok-left-2.left, c.right.new.cursor) = search rules in
-    chain_less c.args.level c.args.entry c.args.room c.loop-alloc.left c.in_ok-left-2.left c.loop-alloc.cursor c.right.new.cursor tested read
+    chain_less c.args.precedence c.args.entry c.args.room c.loop-alloc.left c.in_ok-left-2.left c.loop-alloc.cursor c.right.new.cursor tested read
 
 pub operand-returns-in-Disjunction : goal.operand-returns-in-Disjunction
 operand-returns-in-Disjunction t c = rw (c.in-Disjunction.is, of_conjunctions c.args.entry c.args.room c.args.cursor.now) c.chain.ensures

@@ -1,6 +1,6 @@
 use Rattle.std.proofs.Common.{rules, ◌≡◌, Some}
 use Rattle.ft_read.specs.parsers.Cursor.{head}
-use Rattle.ft_parse.proofs.LevelLemmas.{expression_some}
+use Rattle.ft_parse.proofs.PrecedenceLemmas.{expression_some}
 use Rattle.ft_parse.proofs.expressions.expression.Goals as goal
 
 pub returns : goal.returns

@@ -8,76 +8,87 @@ use Rattle.ft_read.specs.meaning.Limit.{opening, within}
 use Rattle.ft_read.specs.parsers.Cursor.{head}
 use Rattle.ft_parse.specs.meaning.Expressions.{Nest, negated, signed, whole}
 use Rattle.ft_read.specs.meaning.Operators.{as_relation, as_simple, two}
-use Rattle.ft_parse.specs.parsers.Levels.{inner_by, level_by, operand_by}
+use Rattle.ft_parse.specs.parsers.Precedence.{inner_by, precedence_by, operand_by}
 use Rattle.ft_read.specs.parsers.Tokens.{ops_of}
 use Rattle.ft_parse.specs.parsers.Expressions.{atom_by, chain_by, comparison_by, conjunction_by, disjunction_by, expression_by}
 use Rattle.ft_parse.specs.parsers.Expressions.{expression_from, group_by, history_by, layer_by, negation_by, nested_by, prefixed_by}
 use Rattle.ft_parse.specs.parsers.Expressions.{product_by, refuse, right_by, sum_by, unary_by}
-use Rattle.ft_read.specs.parsers.Combinators.{Parser, Seen, begins, can, go_on, read_token, seen}
+use Rattle.ft_read.specs.parsers.Combinators.{Parser, ParserState, begins, can, bind, read_token, state}
 use Rattle.ft_parse.specs.parsers.Repetition.{many}
-use Rattle.ft_read.specs.declared.operators.Level.{Level}
-use Rattle.ft_read.specs.declared.operators.Level.TheVariants.{Disjunction, Conjunction, Comparison, Sum, Product}
+use Rattle.ft_read.specs.declared.operators.Precedence.{Precedence}
+use Rattle.ft_read.specs.declared.operators.Precedence.TheVariants.{Disjunction, Conjunction, Comparison, Sum, Product}
 use Rattle.ft_read.specs.declared.parts.Entry.{Entry}
 use Rattle.ft_read.specs.declared.parts.Operator.{Operator}
 use Rattle.ft_read.specs.declared.stop.Stop.TheVariants.{Syntax}
-use Rattle.ft_parse.proofs.Shorter.{AtMost, Keeps, Shortens, either-keeps, either-shortens, ended, first-then, gives, keeps, less}
+use Rattle.ft_parse.proofs.Shorter.{AtMost, Keeps, Shortens, alternative-keeps, alternative-shortens, repetition-end, first-then, gives, keeps, less}
 use Rattle.ft_parse.proofs.Shorter.{many-keeps, part-then, token, turn}
 
-nested-is : (room : ℕ) (entry : Entry) (nest : Nest) (s : Seen) → nested_by room entry nest s ≡ layer_by entry (inner_by room entry) room nest s
+nested-is : (room : ℕ) (entry : Entry) (nest : Nest) (s : ParserState)
+    → nested_by room entry nest s ≡ layer_by entry (inner_by room entry) room nest s
 unfolding nested_by
 nested-is zero entry nest s = refl
 nested-is (suc room) entry nest s = refl
 
-disjunction-is : (entry : Entry) (room : ℕ) (s : Seen) → disjunction_by entry (inner_by room entry) room s ≡ level_by Disjunction entry room s
+disjunction-is : (entry : Entry) (room : ℕ) (s : ParserState)
+    → disjunction_by entry (inner_by room entry) room s ≡ precedence_by Disjunction entry room s
 unfolding disjunction_by
 disjunction-is entry room s = refl
 
-inner-is : (room inside : ℕ) (entry : Entry) (nest : Nest) (s : Seen) → room ≡ suc inside → inner_by room entry nest s ≡ layer_by entry (inner_by inside entry) inside nest s
+inner-is : (room inside : ℕ) (entry : Entry) (nest : Nest) (s : ParserState) → room ≡ suc inside
+    → inner_by room entry nest s ≡ layer_by entry (inner_by inside entry) inside nest s
 inner-is room inside entry nest s e = rw e (nested-is inside entry nest s)
 
-pub inner_whole : (room inside : ℕ) (entry : Entry) (s : Seen) → room ≡ suc inside → inner_by room entry whole s ≡ level_by Disjunction entry inside s
+pub inner_whole : (room inside : ℕ) (entry : Entry) (s : ParserState) → room ≡ suc inside
+    → inner_by room entry whole s ≡ precedence_by Disjunction entry inside s
 inner_whole room inside entry s e = inner-is room inside entry whole s e ∙ disjunction-is entry inside s
 
-pub inner_negated : (room inside : ℕ) (entry : Entry) (s : Seen) → room ≡ suc inside → inner_by room entry negated s ≡ negation_by entry (inner_by inside entry) inside s
+pub inner_negated : (room inside : ℕ) (entry : Entry) (s : ParserState) → room ≡ suc inside
+    → inner_by room entry negated s ≡ negation_by entry (inner_by inside entry) inside s
 inner_negated room inside entry s e = inner-is room inside entry negated s e
 
-pub inner_signed : (room inside : ℕ) (entry : Entry) (s : Seen) → room ≡ suc inside → inner_by room entry signed s ≡ unary_by entry (inner_by inside entry) inside s
+pub inner_signed : (room inside : ℕ) (entry : Entry) (s : ParserState) → room ≡ suc inside
+    → inner_by room entry signed s ≡ unary_by entry (inner_by inside entry) inside s
 inner_signed room inside entry s e = inner-is room inside entry signed s e
 
 pub ruleset inner = (inner_whole, inner_negated, inner_signed)
 
-pub of_conjunctions : (entry : Entry) (room : ℕ) (s : Seen) → operand_by Disjunction entry (inner_by room entry) room s ≡ level_by Conjunction entry room s
+pub of_conjunctions : (entry : Entry) (room : ℕ) (s : ParserState)
+    → operand_by Disjunction entry (inner_by room entry) room s ≡ precedence_by Conjunction entry room s
 unfolding conjunction_by
 of_conjunctions entry room s = refl
 
-pub of_sums : (entry : Entry) (room : ℕ) (s : Seen) → operand_by Comparison entry (inner_by room entry) room s ≡ level_by Sum entry room s
+pub of_sums : (entry : Entry) (room : ℕ) (s : ParserState)
+    → operand_by Comparison entry (inner_by room entry) room s ≡ precedence_by Sum entry room s
 unfolding sum_by
 of_sums entry room s = refl
 
-pub of_products : (entry : Entry) (room : ℕ) (s : Seen) → operand_by Sum entry (inner_by room entry) room s ≡ level_by Product entry room s
+pub of_products : (entry : Entry) (room : ℕ) (s : ParserState)
+    → operand_by Sum entry (inner_by room entry) room s ≡ precedence_by Product entry room s
 unfolding product_by
 of_products entry room s = refl
 
-pub ruleset levels = (of_conjunctions, of_sums, of_products)
+pub ruleset precedences = (of_conjunctions, of_sums, of_products)
 
-of_none : (is_beyond : Bool) (at : ℕ) (rest : List Lexeme) → head rest ≡ None → expression_from is_beyond at rest ≡ (Err Syntax, seen at rest)
+of_none : (is_beyond : Bool) (at : ℕ) (rest : List Lexeme) → head rest ≡ None
+    → expression_from is_beyond at rest ≡ (Err Syntax, state at rest)
 of_none is_beyond at [] e = refl
 of_none is_beyond at (l ∷ rest) e = cc e
 
 of_some : (is_beyond : Bool) (at : ℕ) (rest : List Lexeme) (l : Lexeme) → head rest ≡ Some l
-    → expression_from is_beyond at rest ≡ level_by Disjunction (record { before = at; start = l.place; is_beyond = is_beyond }) 64 (seen at rest)
+    → expression_from is_beyond at rest
+    ≡ precedence_by Disjunction (record { before = at; start = l.place; is_beyond = is_beyond }) 64 (state at rest)
 of_some is_beyond at [] l e = cc e
 of_some is_beyond at (k ∷ rest) l e =
     let same : k ≡ l = cc e in
-    rw same (nested-is 64 (record { before = at; start = l.place; is_beyond = is_beyond }) whole (seen at (l ∷ rest))
-    ∙ disjunction-is (record { before = at; start = l.place; is_beyond = is_beyond }) 64 (seen at (l ∷ rest)))
+    rw same (nested-is 64 (record { before = at; start = l.place; is_beyond = is_beyond }) whole (state at (l ∷ rest))
+    ∙ disjunction-is (record { before = at; start = l.place; is_beyond = is_beyond }) 64 (state at (l ∷ rest)))
 
-pub expression_none : (is_beyond : Bool) (s : Seen) → head s.rest ≡ None → expression_by is_beyond s ≡ (Err Syntax, s)
+pub expression_none : (is_beyond : Bool) (s : ParserState) → head s.rest ≡ None → expression_by is_beyond s ≡ (Err Syntax, s)
 unfolding expression_by
 expression_none is_beyond s e = of_none is_beyond s.at s.rest e
 
-pub expression_some : (is_beyond : Bool) (s : Seen) (l : Lexeme) → head s.rest ≡ Some l
-    → expression_by is_beyond s ≡ level_by Disjunction (record { before = s.at; start = l.place; is_beyond = is_beyond }) 64 s
+pub expression_some : (is_beyond : Bool) (s : ParserState) (l : Lexeme) → head s.rest ≡ Some l
+    → expression_by is_beyond s ≡ precedence_by Disjunction (record { before = s.at; start = l.place; is_beyond = is_beyond }) 64 s
 unfolding expression_by
 expression_some is_beyond s l e = of_some is_beyond s.at s.rest l e
 
@@ -106,8 +117,8 @@ module _ (entry : Entry) (inner : Nest → Parser Expr) (room : ℕ) (within-kee
   atom-shortens : Shortens (atom_by entry inner room)
   unfolding atom_by
   atom-shortens =
-      either-shortens _ _ _ (token as_simple (within entry))
-      (either-shortens _ _ _ (history-shortens (codes "prev") expr.Prev) (either-shortens _ _ _ (history-shortens (codes "age") expr.Age) group-shortens))
+      alternative-shortens _ _ _ (token as_simple (within entry))
+      (alternative-shortens _ _ _ (history-shortens (codes "prev") expr.Prev) (alternative-shortens _ _ _ (history-shortens (codes "age") expr.Age) group-shortens))
 
   prefixed-shortens : (read : Lexeme → Option Place) (nest : Nest) (make : Expr → Place → Expr) → Shortens (prefixed_by entry room read (inner nest) make)
   unfolding prefixed_by
@@ -115,7 +126,7 @@ module _ (entry : Entry) (inner : Nest → Parser Expr) (room : ℕ) (within-kee
 
   unary-shortens : Shortens (unary_by entry inner room)
   unfolding unary_by
-  unary-shortens = either-shortens _ _ _ (prefixed-shortens (as_sign (codes "-")) signed expr.Neg) atom-shortens
+  unary-shortens = alternative-shortens _ _ _ (prefixed-shortens (as_sign (codes "-")) signed expr.Neg) atom-shortens
 
   right-shortens : (ops : Lexeme → Option Operator) (operand : Parser Expr) → Shortens operand → (left : Expr) → Shortens (right_by entry ops operand left)
   unfolding right_by
@@ -135,17 +146,17 @@ module _ (entry : Entry) (inner : Nest → Parser Expr) (room : ℕ) (within-kee
   comparison-shortens : Shortens (comparison_by entry inner room)
   unfolding comparison_by
   comparison-shortens =
-      first-then _ _ sum-shortens (λ left. either-keeps _ _ _ (keeps _ (right-shortens as_relation (sum_by entry inner room) sum-shortens left)) (gives left))
+      first-then _ _ sum-shortens (λ left. alternative-keeps _ _ _ (keeps _ (right-shortens as_relation (sum_by entry inner room) sum-shortens left)) (gives left))
 
   negation-shortens : Shortens (negation_by entry inner room)
   unfolding negation_by
-  negation-shortens = either-shortens _ _ _ (prefixed-shortens (as_word (codes "not")) negated expr.Not) comparison-shortens
+  negation-shortens = alternative-shortens _ _ _ (prefixed-shortens (as_word (codes "not")) negated expr.Not) comparison-shortens
 
   conjunction-shortens : Shortens (conjunction_by entry inner room)
   unfolding conjunction_by
   conjunction-shortens = chain-shortens (ops_of Conjunction) (negation_by entry inner room) negation-shortens
 
-  operand-shortens : (level : Level) → Shortens (operand_by level entry inner room)
+  operand-shortens : (precedence : Precedence) → Shortens (operand_by precedence entry inner room)
   operand-shortens Disjunction = conjunction-shortens
   operand-shortens Conjunction = negation-shortens
   operand-shortens Comparison = sum-shortens
@@ -173,33 +184,40 @@ inner-keeps (suc room) entry nest = keeps _ (nested-shortens room entry nest)
 
 of-first : (is_beyond : Bool) (n at : ℕ) (rest : List Lexeme) → length rest ≤ suc n → AtMost n (expression_from is_beyond at rest)
 of-first is_beyond n at [] e = tt
-of-first is_beyond n at (l ∷ rest) e = (nested-shortens 64 (record { before = at; start = l.place; is_beyond = is_beyond }) whole).by n (seen at (l ∷ rest)) e
+of-first is_beyond n at (l ∷ rest) e =
+    (nested-shortens 64 (record { before = at; start = l.place; is_beyond = is_beyond }) whole).by n (state at (l ∷ rest)) e
 
 pub expression-shortens : (is_beyond : Bool) → Shortens (expression_by is_beyond)
 unfolding expression_by
 expression-shortens is_beyond = record { by = λ n s e. of-first is_beyond n s.at s.rest e }
 
 -- one turn of a chain, and its end
-part-shortens : (level : Level) (entry : Entry) (room : ℕ) (left : Expr)
-    → Shortens (right_by entry (ops_of level) (operand_by level entry (inner_by room entry) room) left)
-part-shortens level entry room left =
-    right-shortens entry (inner_by room entry) room (inner-keeps room entry) (ops_of level) (operand_by level entry (inner_by room entry) room)
-    (operand-shortens entry (inner_by room entry) room (inner-keeps room entry) level) left
+part-shortens : (precedence : Precedence) (entry : Entry) (room : ℕ) (left : Expr)
+    → Shortens (right_by entry (ops_of precedence) (operand_by precedence entry (inner_by room entry) room) left)
+part-shortens precedence entry room left =
+    right-shortens entry (inner_by room entry) room (inner-keeps room entry) (ops_of precedence) (operand_by precedence entry (inner_by room entry) room)
+    (operand-shortens entry (inner_by room entry) room (inner-keeps room entry) precedence) left
 
-pub chain_turn : (level : Level) (entry : Entry) (room : ℕ) (left : Expr) (s : Seen) → begins (can (ops_of level)) s.rest ≡ true
-    → many (can (ops_of level)) (right_by entry (ops_of level) (operand_by level entry (inner_by room entry) room)) left s
-    ≡ go_on (many (can (ops_of level)) (right_by entry (ops_of level) (operand_by level entry (inner_by room entry) room)))
-    (right_by entry (ops_of level) (operand_by level entry (inner_by room entry) room) left s)
-chain_turn level entry room left s e =
-    turn (can (ops_of level)) (right_by entry (ops_of level) (operand_by level entry (inner_by room entry) room)) (part-shortens level entry room) left s.at s.rest e
+pub chain_turn : (precedence : Precedence) (entry : Entry) (room : ℕ) (left : Expr) (s : ParserState)
+    → begins (can (ops_of precedence)) s.rest ≡ true
+    → many (can (ops_of precedence)) (right_by entry (ops_of precedence) (operand_by precedence entry (inner_by room entry) room)) left s
+    ≡ bind (many (can (ops_of precedence)) (right_by entry (ops_of precedence) (operand_by precedence entry (inner_by room entry) room)))
+    (right_by entry (ops_of precedence) (operand_by precedence entry (inner_by room entry) room) left s)
+chain_turn precedence entry room left s e =
+    turn (can (ops_of precedence)) (right_by entry (ops_of precedence) (operand_by precedence entry (inner_by room entry) room)) (part-shortens precedence entry room) left s.at s.rest e
 
-pub chain_end : (level : Level) (entry : Entry) (room : ℕ) (left : Expr) (s : Seen) → begins (can (ops_of level)) s.rest ≡ false
-    → many (can (ops_of level)) (right_by entry (ops_of level) (operand_by level entry (inner_by room entry) room)) left s ≡ (Ok left, s)
-chain_end level entry room left s e =
-    ended (can (ops_of level)) (right_by entry (ops_of level) (operand_by level entry (inner_by room entry) room)) (part-shortens level entry room) left s.at s.rest e
+pub chain_end : (precedence : Precedence) (entry : Entry) (room : ℕ) (left : Expr) (s : ParserState)
+    → begins (can (ops_of precedence)) s.rest ≡ false
+    → many (can (ops_of precedence)) (right_by entry (ops_of precedence) (operand_by precedence entry (inner_by room entry) room)) left s
+    ≡ (Ok left, s)
+chain_end precedence entry room left s e =
+    repetition-end (can (ops_of precedence)) (right_by entry (ops_of precedence) (operand_by precedence entry (inner_by room entry) room)) (part-shortens precedence entry room) left s.at s.rest e
 
-pub chain_less : (level : Level) (entry : Entry) (room : ℕ) (left next : Expr) (s after : Seen) → begins (can (ops_of level)) s.rest ≡ true
-    → right_by entry (ops_of level) (operand_by level entry (inner_by room entry) room) left s ≡ (Ok next, after) → length after.rest < length s.rest
-chain_less level entry room left next s after e f = less (can (ops_of level)) _ (part-shortens level entry room left) s.at s.rest next after e f
+pub chain_less : (precedence : Precedence) (entry : Entry) (room : ℕ) (left next : Expr) (s after : ParserState)
+    → begins (can (ops_of precedence)) s.rest ≡ true
+    → right_by entry (ops_of precedence) (operand_by precedence entry (inner_by room entry) room) left s ≡ (Ok next, after)
+    → length after.rest < length s.rest
+chain_less precedence entry room left next s after e f =
+    less (can (ops_of precedence)) _ (part-shortens precedence entry room left) s.at s.rest next after e f
 
 pub ruleset turns = (chain_turn, chain_end, chain_less)

@@ -1,15 +1,15 @@
--- The levels of operators, and what may stand within an opened construct where so many more may open.
+-- The parsers by the precedence of operators, and what may stand within an opened construct where so many more may open.
 use Rattle.std.specs.Prelude.{ℕ, zero, suc}
 use Rattle.ft_tree.specs.declared.expr.Expr.{Expr}
 use Rattle.ft_read.specs.parsers.Combinators.{Parser}
 use Rattle.ft_read.specs.declared.parts.Entry.{Entry}
-use Rattle.ft_read.specs.declared.operators.Level.{Level}
-use Rattle.ft_read.specs.declared.operators.Level.TheVariants.{Disjunction, Conjunction, Comparison, Sum, Product}
+use Rattle.ft_read.specs.declared.operators.Precedence.{Precedence}
+use Rattle.ft_read.specs.declared.operators.Precedence.TheVariants.{Disjunction, Conjunction, Comparison, Sum, Product}
 use Rattle.ft_read.specs.parsers.Tokens.{ops_of}
 use Rattle.ft_parse.specs.meaning.Expressions.{Nest}
 use Rattle.ft_parse.specs.parsers.Expressions.{chain_by, conjunction_by, negation_by, nested_by, product_by, refuse, sum_by, unary_by}
 
-abbrev pub operand_by : Level → Entry → (Nest → Parser Expr) → (room : ℕ) → Parser Expr
+abbrev pub operand_by : Precedence → Entry → (Nest → Parser Expr) → (room : ℕ) → Parser Expr
 operand_by Disjunction = conjunction_by
 operand_by Conjunction = negation_by
 operand_by Comparison = sum_by
@@ -21,6 +21,6 @@ abbrev pub inner_by : (room : ℕ) → Entry → Nest → Parser Expr
 inner_by zero entry = refuse
 inner_by (suc room) entry = nested_by room entry
 
--- operands of a level with its operators between them
-abbrev pub level_by : Level → Entry → (room : ℕ) → Parser Expr
-level_by level entry room = chain_by entry (ops_of level) (operand_by level entry (inner_by room entry) room)
+-- operands of a precedence with its operators between them
+abbrev pub precedence_by : Precedence → Entry → (room : ℕ) → Parser Expr
+precedence_by precedence entry room = chain_by entry (ops_of precedence) (operand_by precedence entry (inner_by room entry) room)

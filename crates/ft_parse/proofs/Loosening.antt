@@ -24,13 +24,13 @@ part_at entry inner room (suc (suc (suc (suc (suc (suc zero)))))) = unary entry 
 part_at entry inner room (suc (suc (suc (suc (suc (suc (suc r))))))) = atom entry inner room
 
 -- the rank so many after one
-abbrev pub after : ℕ → ℕ → ℕ
-after zero r = r
-after (suc k) r = suc (after k r)
+abbrev pub tighter_by : ℕ → ℕ → ℕ
+tighter_by zero r = r
+tighter_by (suc k) r = suc (tighter_by k r)
 
-pub after-is : (k r : ℕ) → after k r ≡ k + r
-after-is zero r = omega arith
-after-is (suc k) r = omega (arith, after-is k r)
+pub tighter_by-is : (k r : ℕ) → tighter_by k r ≡ k + r
+tighter_by-is zero r = omega arith
+tighter_by-is (suc k) r = omega (arith, tighter_by-is k r)
 
 chained : (entry : Entry) (ops : Lexeme → Option Operator) (operand : Language Expr) → Within operand (chain entry ops operand)
 unfolding ◌▷◌ times
@@ -51,9 +51,9 @@ module _ (entry : Entry) (inner : Nest → Language Expr) (room : ℕ) where
   looser (suc (suc (suc (suc (suc (suc zero)))))) = record { up = λ at steps e h. inr h }
   looser (suc (suc (suc (suc (suc (suc (suc r))))))) = record { up = λ at steps e h. h }
 
-  pub lift : (k r : ℕ) → Within (part_at entry inner room (after k r)) (part_at entry inner room r)
-  lift zero r = record { up = λ at steps e h. h }
-  lift (suc k) r = record { up = λ at steps e h. (lift k r).up at steps e ((looser (after k r)).up at steps e h) }
+  pub loosen : (k r : ℕ) → Within (part_at entry inner room (tighter_by k r)) (part_at entry inner room r)
+  loosen zero r = record { up = λ at steps e h. h }
+  loosen (suc k) r = record { up = λ at steps e h. (loosen k r).up at steps e ((looser (tighter_by k r)).up at steps e h) }
 
 -- one turn more
 times-more : {A : Type 0} (part : A → Language A) (n at : ℕ) (us vs : List Step) (a b c : A) → times n part a at us b

@@ -2,7 +2,7 @@ ghost use Rattle.std.specs.Prelude.{◌≡◌, List, OnOk};
 ghost use Rattle.ft_tree.specs.meaning.Expression.{expr_pieces};
 ghost use Rattle.ft_tree.specs.meaning.Line.{Piece, token};
 ghost use Rattle.ft_tree.specs.meaning.Lines.{bound_pieces, kind_pieces, listed, plain_text, range_pieces, sign_pieces, word_pieces};
-ghost use Rattle.ft_tree.specs.writing.Writer.{after, put};
+ghost use Rattle.ft_tree.specs.writing.Writer.{put_all, put};
 
 use crate::expr::Expr;
 use crate::expression::{truth, write_expr};
@@ -10,19 +10,19 @@ use crate::item::{Bound, Kind, Plain, Word};
 use crate::writer::Writer;
 use ft_base::NoMemory;
 
-/// A part of a line: it has tokens.
-pub trait Part {
+/// A phrase of a line: it has tokens.
+pub trait Phrase {
     ghost pieces: { Self → List Piece };
 
     /// Writes its tokens.
     fn write(&self, writer: &mut Writer) -> Result<(), NoMemory>
-        ensures { OnOk result (writer.new ≡ after writer.old (pieces self.now)) };
+        ensures { OnOk result (writer.new ≡ put_all writer.old (pieces self.now)) };
 }
 
 /// The tokens of each part, with `,` between them.
 #[tactic(auto, using(crate::proofs::WritingLemmas::steps))]
-pub fn write_listed<T: Part>(writer: &mut Writer, parts: &[T]) -> Result<(), NoMemory>
-    ensures { OnOk result (writer.new ≡ after writer.old (listed T.pieces parts.now)) }
+pub fn write_listed<T: Phrase>(writer: &mut Writer, parts: &[T]) -> Result<(), NoMemory>
+    ensures { OnOk result (writer.new ≡ put_all writer.old (listed T.pieces parts.now)) }
 {
     let Some((first, more)) = parts.split_first() else {
         return Ok(());
@@ -35,7 +35,7 @@ pub fn write_listed<T: Part>(writer: &mut Writer, parts: &[T]) -> Result<(), NoM
     Ok(())
 }
 
-impl Part for Word {
+impl Phrase for Word {
     ghost pieces = { word_pieces };
 
     #[tactic(auto, using(crate::proofs::WritingLemmas::steps))]
@@ -44,7 +44,7 @@ impl Part for Word {
     }
 }
 
-impl Part for Expr {
+impl Phrase for Expr {
     ghost pieces = { expr_pieces };
 
     #[tactic(auto, using(crate::proofs::WritingLemmas::steps))]
@@ -56,7 +56,7 @@ impl Part for Expr {
 /// A minus where there is one.
 #[tactic(auto, using(crate::proofs::WritingLemmas::steps))]
 pub fn write_sign(writer: &mut Writer, minus: bool) -> Result<(), NoMemory>
-    ensures { OnOk result (writer.new ≡ after writer.old (sign_pieces minus)) }
+    ensures { OnOk result (writer.new ≡ put_all writer.old (sign_pieces minus)) }
 {
     if minus {
         writer.put_minus()?;
@@ -75,7 +75,7 @@ fn write_plain(writer: &mut Writer, value: &Plain) -> Result<(), NoMemory>
     }
 }
 
-impl Part for Bound {
+impl Phrase for Bound {
     ghost pieces = { bound_pieces };
 
     #[tactic(auto, using(crate::proofs::WritingLemmas::steps))]
@@ -88,14 +88,14 @@ impl Part for Bound {
 /// The tokens of `lo..hi`.
 #[tactic(auto, using(crate::proofs::WritingLemmas::steps))]
 pub fn write_range(writer: &mut Writer, lo: &Bound, hi: &Bound) -> Result<(), NoMemory>
-    ensures { OnOk result (writer.new ≡ after writer.old (range_pieces lo.now hi.now)) }
+    ensures { OnOk result (writer.new ≡ put_all writer.old (range_pieces lo.now hi.now)) }
 {
     lo.write(writer)?;
     writer.put(b"..")?;
     hi.write(writer)
 }
 
-impl Part for Kind {
+impl Phrase for Kind {
     ghost pieces = { kind_pieces };
 
     #[tactic(auto, using(crate::proofs::WritingLemmas::steps))]
