@@ -33,7 +33,7 @@ use Rattle.ft_parse.specs.meaning.Expressions.{negation, negated, prefixed, prod
 use Rattle.ft_read.specs.meaning.Operators.{as_and, as_or, as_product, as_relation, as_simple, as_sum, two}
 use Rattle.ft_parse.specs.meaning.Expressions
 use Rattle.ft_tree.specs.meaning.Bare.{bare_expr, start}
-use Rattle.ft_read.specs.declared.parts.Entry.{Entry}
+use Rattle.ft_read.specs.declared.parts.Site.{Site}
 use Rattle.ft_read.specs.declared.parts.Operator.{Operator}
 use Rattle.ft_parse.proofs.Loosening.{tighter_by, tighter_by-is, chain-more, loosen, part_at}
 use Rattle.ft_parse.proofs.Marks.{mark, name-kind, name-lexical, number-kind, number-lexical, reads-sign, reads-word, value-back}
@@ -187,12 +187,12 @@ same-level = expr_induction (λ e. (nested e).level ≡ (spelled e).level) (reco
       ∙ sym (ap (λ (s : Spelled). s.level) (spelled-Two op l r place));
 })
 
-module _ (entry : Entry) (beyond : entry.is_beyond ≡ false) where
+module _ (site : Site) (beyond : site.is_beyond ≡ false) where
   -- the tokens are among the first 1,000 of the expression
   Fits : ℕ → List Shape → Type 0
-  Fits at ss = at + length ss ≤ entry.before + 1000
+  Fits at ss = at + length ss ≤ site.before + 1000
 
-  fits-first : (at : ℕ) (s : Shape) (ss : List Shape) → Fits at (s ∷ ss) → at < entry.before + 1000
+  fits-first : (at : ℕ) (s : Shape) (ss : List Shape) → Fits at (s ∷ ss) → at < site.before + 1000
   unfolding Fits
   fits-first at s ss h = omega arith
 
@@ -204,11 +204,11 @@ module _ (entry : Entry) (beyond : entry.is_beyond ≡ false) where
   unfolding Fits
   fits-front at xs ys h = omega (arith, length-append xs ys)
 
-  no-within : (at : ℕ) (l : Lexeme) → lexical_pass l ≡ None → at < entry.before + 1000 → within entry at l ≡ None
-  no-within at l lexical early = rw (lexical, beyond, lt-leb (entry.before + 1000) at early) refl
+  no-within : (at : ℕ) (l : Lexeme) → lexical_pass l ≡ None → at < site.before + 1000 → within site at l ≡ None
+  no-within at l lexical early = rw (lexical, beyond, lt-leb (site.before + 1000) at early) refl
 
-  no-opening : (at room : ℕ) (l : Lexeme) → lexical_pass l ≡ None → at < entry.before + 1000 → 0 < room
-      → opening entry room at l ≡ None
+  no-opening : (at room : ℕ) (l : Lexeme) → lexical_pass l ≡ None → at < site.before + 1000 → 0 < room
+      → opening site room at l ≡ None
   no-opening at zero l lexical early some = absurd (omega arith)
   no-opening at (suc room) l lexical early some =
       let free : nat_eq (suc room) 0 ≡ false = grind (arith, nat_tests) in
@@ -216,29 +216,29 @@ module _ (entry : Entry) (beyond : entry.is_beyond ≡ false) where
 
   -- what may stand within, and the part of a rank
   abbrev inside : (n room : ℕ) → Nest → Language Expr
-  inside n room nest = Expressions.nested n entry (room - 1) nest
+  inside n room nest = Expressions.nested n site (room - 1) nest
 
   abbrev part : (n room r : ℕ) → Language Expr
-  part n room r = part_at entry (inside n room) room r
+  part n room r = part_at site (inside n room) room r
 
   abbrev rest_of_atom : (n room : ℕ) → Language Expr
   rest_of_atom n room =
-      alternative (history entry room (codes "prev") expr.Prev) (alternative (history entry room (codes "age") expr.Age)
-      (group entry (inside n room) room))
+      alternative (history site room (codes "prev") expr.Prev) (alternative (history site room (codes "age") expr.Age)
+      (group site (inside n room) room))
 
-  word-mark : (w : List ℕ) → kind_of w ≡ kind.Word → (at : ℕ) → at < entry.before + 1000
-      → Writes (token (as_word w) (within entry)) at ((kind_of w, w) ∷ []) (λ _. Unit {0})
+  word-mark : (w : List ℕ) → kind_of w ≡ kind.Word → (at : ℕ) → at < site.before + 1000
+      → Writes (token (as_word w) (within site)) at ((kind_of w, w) ∷ []) (λ _. Unit {0})
   word-mark w is at early =
       mark w kind.Word is (λ place. (place, reads-word w place, no-within at (lexeme_at (kind.Word, w) place) refl early, tt))
 
-  close-mark : (at : ℕ) → at < entry.before + 1000
-      → Writes (token (as_sign (codes ")")) (within entry)) at ((kind_of (codes ")"), codes ")") ∷ []) (λ _. Unit {0})
+  close-mark : (at : ℕ) → at < site.before + 1000
+      → Writes (token (as_sign (codes ")")) (within site)) at ((kind_of (codes ")"), codes ")") ∷ []) (λ _. Unit {0})
   close-mark at early =
       mark (codes ")") kind.Sign close-kind
       (λ place. (place, reads-sign (codes ")") place, no-within at (lexeme_at (kind.Sign, codes ")") place) refl early, tt))
 
-  open-mark : (at room : ℕ) → at < entry.before + 1000 → 0 < room
-      → Writes (token (as_sign (codes "(")) (opening entry room)) at ((kind_of (codes "("), codes "(") ∷ []) (λ _. Unit {0})
+  open-mark : (at room : ℕ) → at < site.before + 1000 → 0 < room
+      → Writes (token (as_sign (codes "(")) (opening site room)) at ((kind_of (codes "("), codes "(") ∷ []) (λ _. Unit {0})
   open-mark at room early some =
       mark (codes "(") kind.Sign open-kind
       (λ place. (
@@ -249,8 +249,8 @@ module _ (entry : Entry) (beyond : entry.is_beyond ≡ false) where
         tt,
       ))
 
-  name-mark : (name : List ℕ) → is_name name ≡ true → (at : ℕ) → at < entry.before + 1000
-      → Writes (token as_name (within entry)) at ((kind_of name, name) ∷ []) (λ w. w.text ≡ name)
+  name-mark : (name : List ℕ) → is_name name ≡ true → (at : ℕ) → at < site.before + 1000
+      → Writes (token as_name (within site)) at ((kind_of name, name) ∷ []) (λ w. w.text ≡ name)
   name-mark name h at early =
       mark name kind.Name (name-kind name h)
       (λ place. (
@@ -264,7 +264,7 @@ module _ (entry : Entry) (beyond : entry.is_beyond ≡ false) where
   -- `prev` or `age` of a name
   history-written : (w name : List ℕ) (make : List ℕ → Place → Expr) (e : Expr) → kind_of w ≡ kind.Word → is_name name ≡ true
       → ((place : Place) → Same e (make name place)) → (room at : ℕ) → 0 < room → Fits at (shapes (Expression.history w name))
-      → Writes (history entry room w make) at (shapes (Expression.history w name)) (Same e)
+      → Writes (history site room w make) at (shapes (Expression.history w name)) (Same e)
   unfolding Fits
   history-written w name make e is h same room at some fits =
       next (word-mark w is at (omega arith)) (λ place _. next (open-mark (at + 1) room (omega arith) some)
@@ -276,7 +276,7 @@ module _ (entry : Entry) (beyond : entry.is_beyond ≡ false) where
   grouped : (e : Expr) (inner : Nest → Language Expr) (room at : ℕ) (ss : List Shape)
       → Fits at ((kind_of (codes "("), codes "(") ∷ (ss ++ (kind_of (codes ")"), codes ")") ∷ [])) → 0 < room
       → Writes (inner whole) (at + 1) ss (Same e)
-      → Writes (group entry inner room) at ((kind_of (codes "("), codes "(") ∷ (ss ++ (kind_of (codes ")"), codes ")") ∷ []))
+      → Writes (group site inner room) at ((kind_of (codes "("), codes "(") ∷ (ss ++ (kind_of (codes ")"), codes ")") ∷ []))
       (Same e)
   unfolding Fits
   grouped e inner room at ss fits some written =
@@ -336,8 +336,8 @@ module _ (entry : Entry) (beyond : entry.is_beyond ≡ false) where
   unfolding Prints Printed
   prev-written name place lawful =
       as-forms _ _ _ (spelled-Prev name place) (nested-Prev name place) (λ n room at deep enough fits.
-      right (token as_simple (within entry))
-      (left (alternative (history entry room (codes "age") expr.Age) (group entry (inside n room) room))
+      right (token as_simple (within site))
+      (left (alternative (history site room (codes "age") expr.Age) (group site (inside n room) room))
       (history-written (codes "prev") name expr.Prev (expr.Prev name place) prev-kind (sym (lawful-Prev name place) ∙ lawful)
       (λ p. bare-Prev name p ∙ sym (bare-Prev name place)) room at (omega arith) fits)))
 
@@ -345,15 +345,15 @@ module _ (entry : Entry) (beyond : entry.is_beyond ≡ false) where
   unfolding Prints Printed
   age-written name place lawful =
       as-forms _ _ _ (spelled-Age name place) (nested-Age name place) (λ n room at deep enough fits.
-      right (token as_simple (within entry)) (right (history entry room (codes "prev") expr.Prev)
-      (left (group entry (inside n room) room) (history-written (codes "age") name expr.Age (expr.Age name place) age-kind
+      right (token as_simple (within site)) (right (history site room (codes "prev") expr.Prev)
+      (left (group site (inside n room) room) (history-written (codes "age") name expr.Age (expr.Age name place) age-kind
       (sym (lawful-Age name place) ∙ lawful)
       (λ p. bare-Age name p ∙ sym (bare-Age name place)) room at (omega arith) fits))))
 
   tight-within : (n room r s : ℕ) → s ≤ r → Within (part n room r) (part n room s)
   tight-within n room r s h =
       let same : tighter_by (r - s) s ≡ r = tighter_by-is (r - s) s ∙ omega arith in
-      subst (λ (k : ℕ). Within (part n room k) (part n room s)) same (loosen entry (inside n room) room (r - s) s)
+      subst (λ (k : ℕ). Within (part n room k) (part n room s)) same (loosen site (inside n room) room (r - s) s)
 
   -- what stands within an opened construct, where one less may open
   within-whole : (m room : ℕ) → Within (part m (room - 1) 0) (inside (suc m) room whole)
@@ -386,8 +386,8 @@ module _ (entry : Entry) (beyond : entry.is_beyond ≡ false) where
       let inner = h m (room - 1) (at + 1) (omega arith) (omega arith) (omega (arith, long)) in
       let wide = wider (within-whole m room) (wider (tight-within m (room - 1) (rank s.level) 0 (omega arith)) inner) in
       wider (tight-within (suc m) room 7 (rank ℓ) (rank-small ℓ))
-      (right (token as_simple (within entry)) (right (history entry room (codes "prev") expr.Prev)
-      (right (history entry room (codes "age") expr.Age) (grouped e (inside (suc m) room) room at (shapes s.pieces) fits
+      (right (token as_simple (within site)) (right (history site room (codes "prev") expr.Prev)
+      (right (history site room (codes "age") expr.Age) (grouped e (inside (suc m) room) room at (shapes s.pieces) fits
       (omega arith) wide))))
 
   stands : (ℓ : Level) (e : Expr) (s : Spelled) (d : Nested) → d.level ≡ s.level → Printed e s d → Stands ℓ e s d
@@ -414,7 +414,7 @@ module _ (entry : Entry) (beyond : entry.is_beyond ≡ false) where
   denied-in e place h zero room at deep enough fits = absurd (omega arith)
   denied-in e place h (suc m) room at deep enough fits =
       let inner = wider (within-negated m room) (h m (room - 1) (at + 1) (omega arith) (omega arith) (omega arith)) in
-      left (comparison entry (inside (suc m) room) room) (next {G = λ _. Unit {0}} (mark (codes "not") kind.Word not-kind
+      left (comparison site (inside (suc m) room) room) (next {G = λ _. Unit {0}} (mark (codes "not") kind.Word not-kind
       (λ p. (p, refl, no-opening at room (lexeme_at (kind.Word, codes "not") p) refl (omega arith) (omega arith), tt)))
       (λ p _. made {G = Same e} (λ a. expr.Not a p) inner (λ a same. bare-Not a p ∙ (λ i. expr.Not (same i) start)
       ∙ sym (bare-Not e place))))
@@ -432,7 +432,7 @@ module _ (entry : Entry) (beyond : entry.is_beyond ≡ false) where
   negated-in e place h zero room at deep enough fits = absurd (omega arith)
   negated-in e place h (suc m) room at deep enough fits =
       let inner = wider (within-signed m room) (h m (room - 1) (at + 1) (omega arith) (omega arith) (omega arith)) in
-      left (atom entry (inside (suc m) room) room) (next {G = λ _. Unit {0}} (mark (codes "-") kind.Sign minus-kind
+      left (atom site (inside (suc m) room) room) (next {G = λ _. Unit {0}} (mark (codes "-") kind.Sign minus-kind
       (λ p. (p, refl, no-opening at room (lexeme_at (kind.Sign, codes "-") p) refl (omega arith) (omega arith), tt)))
       (λ p _. made {G = Same e} (λ a. expr.Neg a p) inner (λ a same. bare-Neg a p ∙ (λ i. expr.Neg (same i) start)
       ∙ sym (bare-Neg e place))))
@@ -446,9 +446,9 @@ module _ (entry : Entry) (beyond : entry.is_beyond ≡ false) where
   -- an operator and its right operand
   right-written : (op : Op) (ops : Lexeme → Option Operator) (operand : Language Expr) (e : Expr) (at : ℕ) (ys : List Shape)
       → ((p : Place) → ops (lexeme_at (op-kind op, op_sign op) p) ≡ Some (record { op = op; place = p }))
-      → at < entry.before + 1000
+      → at < site.before + 1000
       → Writes operand (at + 1) ys (Same e) → (l : Expr)
-      → Writes (right_of entry ops operand l) at ((kind_of (op_sign op), op_sign op) ∷ ys) (λ a. bare_expr a
+      → Writes (right_of site ops operand l) at ((kind_of (op_sign op), op_sign op) ∷ ys) (λ a. bare_expr a
       ≡ expr.Two op (bare_expr l) (bare_expr e) start)
   right-written op ops operand e at ys reads early written l =
       next {G = λ o. o.op ≡ op} (mark (op_sign op) (op-kind op) (op-kind-is op)
@@ -465,17 +465,17 @@ module _ (entry : Entry) (beyond : entry.is_beyond ≡ false) where
   chain-written : (op : Op) (ops : Lexeme → Option Operator) (operand : Language Expr) (l r : Expr) (place : Place) (at : ℕ)
       (xs ys : List Shape)
       → ((p : Place) → ops (lexeme_at (op-kind op, op_sign op) p) ≡ Some (record { op = op; place = p }))
-      → at + length xs < entry.before + 1000
-      → Writes (chain entry ops operand) at xs (Same l) → Writes operand (at + length xs + 1) ys (Same r)
-      → Writes (chain entry ops operand) at (xs ++ (kind_of (op_sign op), op_sign op) ∷ ys) (Same (expr.Two op l r place))
+      → at + length xs < site.before + 1000
+      → Writes (chain site ops operand) at xs (Same l) → Writes operand (at + length xs + 1) ys (Same r)
+      → Writes (chain site ops operand) at (xs ++ (kind_of (op_sign op), op_sign op) ∷ ys) (Same (expr.Two op l r place))
   chain-written op ops operand l r place at xs ys reads early on_left on_right =
-      wider (chain-more entry ops operand) (and_then {G = Same l} on_left (λ a same.
+      wider (chain-more site ops operand) (and_then {G = Same l} on_left (λ a same.
       weaker (λ b e. e ∙ (λ i. expr.Two op (same i) (bare_expr r) start) ∙ sym (bare-Two op l r place))
       (right-written op ops operand r (at + length xs) ys reads early on_right a)))
 
   compared-written : (op : Op) (n room : ℕ) (l r : Expr) (place : Place) (at : ℕ) (xs ys : List Shape)
       → ((p : Place) → as_relation (lexeme_at (op-kind op, op_sign op) p) ≡ Some (record { op = op; place = p }))
-      → at + length xs < entry.before + 1000
+      → at + length xs < site.before + 1000
       → Writes (part n room 4) at xs (Same l) → Writes (part n room 4) (at + length xs + 1) ys (Same r)
       → Writes (part n room 3) at (xs ++ (kind_of (op_sign op), op_sign op) ∷ ys) (Same (expr.Two op l r place))
   compared-written op n room l r place at xs ys reads early on_left on_right =
@@ -484,7 +484,7 @@ module _ (entry : Entry) (beyond : entry.is_beyond ≡ false) where
       (right-written op as_relation (part n room 4) r (at + length xs) ys reads early on_right a)))
 
   both-written : (op : Op) (n room : ℕ) (l r : Expr) (place : Place) (at : ℕ) (xs ys : List Shape)
-      → at + length xs < entry.before + 1000
+      → at + length xs < site.before + 1000
       → Writes (part n room (rank (left_level op))) at xs (Same l)
       → Writes (part n room (rank (right_level op))) (at + length xs + 1) ys (Same r)
       → Writes (part n room (rank (op_level op))) at (xs ++ (kind_of (op_sign op), op_sign op) ∷ ys)
@@ -549,13 +549,13 @@ module _ (entry : Entry) (beyond : entry.is_beyond ≡ false) where
     two = two-written;
   })
 
-  as-whole : (n room : ℕ) → Within (part n room 0) (Expressions.nested (suc n) entry room whole)
+  as-whole : (n room : ℕ) → Within (part n room 0) (Expressions.nested (suc n) site room whole)
   unfolding Expressions.nested
   as-whole n room = record { up = λ at steps e h. h }
 
   pub whole-written : (e : Expr) (n room at : ℕ) → is_lawful e ≡ true → (nested e).depth ≤ n → (nested e).depth ≤ room
-      → at + length (shapes (expr_pieces e)) ≤ entry.before + 1000
-      → Writes (Expressions.nested (suc n) entry room whole) at (shapes (expr_pieces e)) (Same e)
+      → at + length (shapes (expr_pieces e)) ≤ site.before + 1000
+      → Writes (Expressions.nested (suc n) site room whole) at (shapes (expr_pieces e)) (Same e)
   unfolding Prints Printed Fits
   whole-written e n room at lawful deep enough fits =
       wider (as-whole n room) (wider (tight-within n room (rank (spelled e).level) 0 (omega arith))
@@ -577,15 +577,15 @@ some-pieces = expr_induction (λ e. 0 < length (expr_pieces e)) (record {
   );
 })
 
-abbrev entry_at : ℕ → Place → Entry
-entry_at at place = record { before = at; start = place; is_beyond = false }
+abbrev site_at : ℕ → Place → Site
+site_at at place = record { before = at; start = place; is_beyond = false }
 
 begins-there : (n at : ℕ) (steps : List Step) (l : Lexeme) (ls : List Lexeme) (e : Expr) → lexemes steps ≡ l ∷ ls
-    → Expressions.nested n (entry_at at l.place) 64 whole at steps e → expression false at steps e
+    → Expressions.nested n (site_at at l.place) 64 whole at steps e → expression false at steps e
 begins-there n at [] l ls e same h = absurd (cc same)
 begins-there n at (s ∷ more) l ls e same h =
     let first : s.lexeme ≡ l = ap (head_or l) same in
-    (s, more, n, refl, subst (λ (k : Lexeme). Expressions.nested n (entry_at at k.place) 64 whole at (s ∷ more) e) (sym first) h)
+    (s, more, n, refl, subst (λ (k : Lexeme). Expressions.nested n (site_at at k.place) 64 whole at (s ∷ more) e) (sym first) h)
 
 -- an expression, where an entry more may stand
 pub expr-written : {at : ℕ} (e : Expr) (is_beyond : Bool) → is_beyond ≡ false → is_expr e ≡ true
@@ -603,4 +603,4 @@ expr-written {at} e is_beyond room h =
           (arith, short, length-map (expr_pieces e) piece_shape) in
           let s = (whole-written
           (record { before = at; start = l.place; is_beyond = false }) refl e 64 64 at lawful deep deep fits).all (l ∷ ls) same in
-          record { steps = s.steps; value = s.value; same = s.same; plain = s.plain; means = begins-there 65 at s.steps l ls s.value s.same s.means; good = s.good }
+          record { steps = s.steps; value = s.value; same = s.same; no_limit = s.no_limit; means = begins-there 65 at s.steps l ls s.value s.same s.means; good = s.good }

@@ -18,7 +18,7 @@ use Rattle.ft_read.specs.parsers.Combinators.{Parser, can, alternative_by, give,
 use Rattle.ft_parse.specs.parsers.Repetition.{many}
 use Rattle.ft_parse.specs.parsers.Expressions.{atom_by, chain_by, comparison_by, conjunction_by, disjunction_by, group_by, history_by}
 use Rattle.ft_parse.specs.parsers.Expressions.{negation_by, prefixed_by, product_by, right_by, sum_by, unary_by}
-use Rattle.ft_read.specs.declared.parts.Entry.{Entry}
+use Rattle.ft_read.specs.declared.parts.Site.{Site}
 use Rattle.ft_read.specs.declared.parts.Operator.{Operator}
 use Rattle.ft_parse.proofs.Forms.{Form, all_differ, any, apart, apart-under, Looks, itself-bytes, looks-map, looks-name, looks-number}
 use Rattle.ft_parse.proofs.Forms.{looks-or, looks-sign, looks-word, sign, some_name, some_number, under-both, word}
@@ -66,28 +66,29 @@ pub rule-map : {A B : Type 0} (L : Language A) (p : Parser A) (h : A → B) (mor
 rule-map L p h more r =
     rule-then L (λ a. nothing (h a)) p (λ a. give (h a)) more more (λ a. calms-nothing (h a) more more (under-same more)) r (λ a. rule-done (h a) more)
 
-module _ (entry : Entry) (ops : Lexeme → Option Operator) (operand : Language Expr) (operand_by : Parser Expr) (leading inner : List Form) (l : Lexeme) (o : Operator)
+module _ (site : Site) (ops : Lexeme → Option Operator) (operand : Language Expr) (operand_by : Parser Expr) (leading inner : List Form) (l : Lexeme) (o : Operator)
     (reads : ops l ≡ Some o) (under : Under (can ops) (any leading)) (differ : all_differ leading inner ≡ true) where
-  pub rule-right : (left : Expr) → Rule operand operand_by (any inner) → Rule (right_of entry ops operand left) (right_by entry ops operand_by left) (any inner)
+  pub rule-right : (left : Expr) → Rule operand operand_by (any inner)
+      → Rule (right_of site ops operand left) (right_by site ops operand_by left) (any inner)
   unfolding right_by
   rule-right left r =
-      rule-next (token ops (within entry)) (λ o. operand ▷ λ right. nothing (two o left right)) (read_token ops (within entry)) (λ o. operand_by ▶ λ right. give (two o left right))
-      (any inner) (rule-token ops (within entry) l o reads) (λ o. rule-map operand operand_by (λ right. two o left right) (any inner) r)
+      rule-next (token ops (within site)) (λ o. operand ▷ λ right. nothing (two o left right)) (read_token ops (within site)) (λ o. operand_by ▶ λ right. give (two o left right))
+      (any inner) (rule-token ops (within site) l o reads) (λ o. rule-map operand operand_by (λ right. two o left right) (any inner) r)
 
-  pub heads-right : (left : Expr) → Heads (right_of entry ops operand left) (can ops)
-  heads-right left = heads-then (token ops (within entry)) (λ o. operand ▷ λ right. nothing (two o left right)) (can ops) (heads-token ops (within entry))
+  pub heads-right : (left : Expr) → Heads (right_of site ops operand left) (can ops)
+  heads-right left = heads-then (token ops (within site)) (λ o. operand ▷ λ right. nothing (two o left right)) (can ops) (heads-token ops (within site))
 
   apart-ops : Apart (can ops) (any inner)
   apart-ops = apart-first (can ops) (any leading) (any inner) under (apart leading inner differ)
 
   pub rule-chain : Rule operand operand_by (any inner)
-      → Rule (chain entry ops operand) (chain_by entry ops operand_by) (any (leading ++ inner))
+      → Rule (chain site ops operand) (chain_by site ops operand_by) (any (leading ++ inner))
   rule-chain r =
-      rule-then operand (repeated (right_of entry ops operand)) operand_by (many (can ops) (right_by entry ops operand_by)) (any inner) (any (leading ++ inner))
-      (calms-many (right_of entry ops operand) (can ops) (right_by entry ops operand_by) (any inner) (any (leading ++ inner)) (λ left s. (rule-right left r).faithful s) heads-right
+      rule-then operand (repeated (right_of site ops operand)) operand_by (many (can ops) (right_by site ops operand_by)) (any inner) (any (leading ++ inner))
+      (calms-many (right_of site ops operand) (can ops) (right_by site ops operand_by) (any inner) (any (leading ++ inner)) (λ left s. (rule-right left r).faithful s) heads-right
       apart-ops (under-right leading inner) (under-both (can ops) (any leading) (any (leading ++ inner)) under (under-left leading inner)))
       r
-      (rule-many (right_of entry ops operand) (can ops) (right_by entry ops operand_by) (any inner) (any (leading ++ inner)) heads-right apart-ops (under-right leading inner)
+      (rule-many (right_of site ops operand) (can ops) (right_by site ops operand_by) (any inner) (any (leading ++ inner)) heads-right apart-ops (under-right leading inner)
       (under-both (can ops) (any leading) (any (leading ++ inner)) under (under-left leading inner)) (λ left. rule-right left r))
 
 -- which tokens operators are
@@ -146,13 +147,14 @@ pub itself : (w : List ℕ) → as_word w (some_word w) ≡ Some here
 itself w = rw (itself-bytes w) refl
 
 -- `prev` or `age`
-pub rule-history : (entry : Entry) (room : ℕ) (w : List ℕ) (make : List ℕ → Place → Expr) → Rule (history entry room w make) (history_by entry room w make) never
+pub rule-history : (site : Site) (room : ℕ) (w : List ℕ) (make : List ℕ → Place → Expr)
+    → Rule (history site room w make) (history_by site room w make) never
 unfolding history_by
-rule-history entry room w make =
-    next (rule-token (as_word w) (within entry) (some_word w) here (itself w)) (λ place.
-    next (rule-token (as_sign (codes "(")) (opening entry room) (some_sign (codes "(")) here refl) (λ _.
-    next (rule-token as_name (within entry) some_name_token _ refl) (λ name.
-    next (rule-token (as_sign (codes ")")) (within entry) (some_sign (codes ")")) here refl) (λ _.
+rule-history site room w make =
+    next (rule-token (as_word w) (within site) (some_word w) here (itself w)) (λ place.
+    next (rule-token (as_sign (codes "(")) (opening site room) (some_sign (codes "(")) here refl) (λ _.
+    next (rule-token as_name (within site) some_name_token _ refl) (λ name.
+    next (rule-token (as_sign (codes ")")) (within site) (some_sign (codes ")")) here refl) (λ _.
     rule-give (make name.text place)))))
 
 -- a part that begins with a token of these forms
@@ -191,130 +193,131 @@ abbrev pub negation_forms : List Form
 negation_forms = word (codes "not") ∷ unary_forms
 
 -- what the parts begin with
-module _ (entry : Entry) (inner : Nest → Language Expr) (room : ℕ) where
-  heads-group : Heads (group entry inner room) (any (sign (codes "(") ∷ []))
-  heads-group = heads-first (as_sign (codes "(")) (opening entry room) _ (sign (codes "(") ∷ []) (looks-sign (codes "("))
+module _ (site : Site) (inner : Nest → Language Expr) (room : ℕ) where
+  heads-group : Heads (group site inner room) (any (sign (codes "(") ∷ []))
+  heads-group = heads-first (as_sign (codes "(")) (opening site room) _ (sign (codes "(") ∷ []) (looks-sign (codes "("))
 
-  heads-history : (w : List ℕ) (make : List ℕ → Place → Expr) → Heads (history entry room w make) (any (word w ∷ []))
-  heads-history w make = heads-first (as_word w) (within entry) _ (word w ∷ []) (looks-word w)
+  heads-history : (w : List ℕ) (make : List ℕ → Place → Expr) → Heads (history site room w make) (any (word w ∷ []))
+  heads-history w make = heads-first (as_word w) (within site) _ (word w ∷ []) (looks-word w)
 
-  from-history : (w : List ℕ) (make : List ℕ → Place → Expr) → Heads (history entry room w make) (can (as_word w))
-  from-history w make = heads-then (token (as_word w) (within entry)) _ (can (as_word w)) (heads-token (as_word w) (within entry))
+  from-history : (w : List ℕ) (make : List ℕ → Place → Expr) → Heads (history site room w make) (can (as_word w))
+  from-history w make = heads-then (token (as_word w) (within site)) _ (can (as_word w)) (heads-token (as_word w) (within site))
 
-  heads-age : Heads (alternative (history entry room (codes "age") expr.Age) (group entry inner room)) (any age_forms)
-  heads-age = heads-two (history entry room (codes "age") expr.Age) (group entry inner room) (word (codes "age") ∷ []) (sign (codes "(") ∷ []) (heads-history (codes "age") expr.Age) heads-group
+  heads-age : Heads (alternative (history site room (codes "age") expr.Age) (group site inner room)) (any age_forms)
+  heads-age = heads-two (history site room (codes "age") expr.Age) (group site inner room) (word (codes "age") ∷ []) (sign (codes "(") ∷ []) (heads-history (codes "age") expr.Age) heads-group
 
-  heads-prev : Heads (alternative (history entry room (codes "prev") expr.Prev) (alternative (history entry room (codes "age") expr.Age) (group entry inner room))) (any prev_forms)
+  heads-prev : Heads (alternative (history site room (codes "prev") expr.Prev) (alternative (history site room (codes "age") expr.Age) (group site inner room))) (any prev_forms)
   heads-prev =
-      heads-two (history entry room (codes "prev") expr.Prev) (alternative (history entry room (codes "age") expr.Age) (group entry inner room)) (word (codes "prev") ∷ []) age_forms
+      heads-two (history site room (codes "prev") expr.Prev) (alternative (history site room (codes "age") expr.Age) (group site inner room)) (word (codes "prev") ∷ []) age_forms
       (heads-history (codes "prev") expr.Prev) heads-age
 
-  heads-atom : Heads (atom entry inner room) (any atom_forms)
+  heads-atom : Heads (atom site inner room) (any atom_forms)
   heads-atom =
-      heads-two (token as_simple (within entry)) (alternative (history entry room (codes "prev") expr.Prev) (alternative (history entry room (codes "age") expr.Age) (group entry inner room)))
-      simple_forms prev_forms (heads-one as_simple (within entry) simple_forms looks-simple) heads-prev
+      heads-two (token as_simple (within site)) (alternative (history site room (codes "prev") expr.Prev) (alternative (history site room (codes "age") expr.Age) (group site inner room)))
+      simple_forms prev_forms (heads-one as_simple (within site) simple_forms looks-simple) heads-prev
 
-  from-minus : Heads (prefixed entry room (as_sign (codes "-")) (inner signed) expr.Neg) (can (as_sign (codes "-")))
-  from-minus = heads-then (token (as_sign (codes "-")) (opening entry room)) _ (can (as_sign (codes "-"))) (heads-token (as_sign (codes "-")) (opening entry room))
+  from-minus : Heads (prefixed site room (as_sign (codes "-")) (inner signed) expr.Neg) (can (as_sign (codes "-")))
+  from-minus = heads-then (token (as_sign (codes "-")) (opening site room)) _ (can (as_sign (codes "-"))) (heads-token (as_sign (codes "-")) (opening site room))
 
-  heads-unary : Heads (unary entry inner room) (any unary_forms)
+  heads-unary : Heads (unary site inner room) (any unary_forms)
   heads-unary =
-      heads-two (prefixed entry room (as_sign (codes "-")) (inner signed) expr.Neg) (atom entry inner room) (sign (codes "-") ∷ []) atom_forms
-      (heads-first (as_sign (codes "-")) (opening entry room) _ (sign (codes "-") ∷ []) (looks-sign (codes "-"))) heads-atom
+      heads-two (prefixed site room (as_sign (codes "-")) (inner signed) expr.Neg) (atom site inner room) (sign (codes "-") ∷ []) atom_forms
+      (heads-first (as_sign (codes "-")) (opening site room) _ (sign (codes "-") ∷ []) (looks-sign (codes "-"))) heads-atom
 
-  heads-sum : Heads (sum entry inner room) (any unary_forms)
-  heads-sum = heads-then (product entry inner room) _ (any unary_forms) (heads-then (unary entry inner room) _ (any unary_forms) heads-unary)
+  heads-sum : Heads (sum site inner room) (any unary_forms)
+  heads-sum = heads-then (product site inner room) _ (any unary_forms) (heads-then (unary site inner room) _ (any unary_forms) heads-unary)
 
-  heads-comparison : Heads (comparison entry inner room) (any unary_forms)
-  heads-comparison = heads-then (sum entry inner room) _ (any unary_forms) heads-sum
+  heads-comparison : Heads (comparison site inner room) (any unary_forms)
+  heads-comparison = heads-then (sum site inner room) _ (any unary_forms) heads-sum
 
-  from-not : Heads (prefixed entry room (as_word (codes "not")) (inner negated) expr.Not) (can (as_word (codes "not")))
-  from-not = heads-then (token (as_word (codes "not")) (opening entry room)) _ (can (as_word (codes "not"))) (heads-token (as_word (codes "not")) (opening entry room))
+  from-not : Heads (prefixed site room (as_word (codes "not")) (inner negated) expr.Not) (can (as_word (codes "not")))
+  from-not = heads-then (token (as_word (codes "not")) (opening site room)) _ (can (as_word (codes "not"))) (heads-token (as_word (codes "not")) (opening site room))
 
-  heads-negation : Heads (negation entry inner room) (any negation_forms)
+  heads-negation : Heads (negation site inner room) (any negation_forms)
   heads-negation =
-      heads-two (prefixed entry room (as_word (codes "not")) (inner negated) expr.Not) (comparison entry inner room) (word (codes "not") ∷ []) unary_forms
-      (heads-first (as_word (codes "not")) (opening entry room) _ (word (codes "not") ∷ []) (looks-word (codes "not"))) heads-comparison
+      heads-two (prefixed site room (as_word (codes "not")) (inner negated) expr.Not) (comparison site inner room) (word (codes "not") ∷ []) unary_forms
+      (heads-first (as_word (codes "not")) (opening site room) _ (word (codes "not") ∷ []) (looks-word (codes "not"))) heads-comparison
 
   -- every expression begins with one of these
-  pub heads-disjunction : Heads (disjunction entry inner room) (any negation_forms)
+  pub heads-disjunction : Heads (disjunction site inner room) (any negation_forms)
   heads-disjunction =
-      heads-then (conjunction entry inner room) _ (any negation_forms) (heads-then (negation entry inner room) _ (any negation_forms) heads-negation)
+      heads-then (conjunction site inner room) _ (any negation_forms) (heads-then (negation site inner room) _ (any negation_forms) heads-negation)
 
 -- the parts of a layer, where those that open are read
-module _ (entry : Entry) (inner : Nest → Language Expr) (inner_by : Nest → Parser Expr) (room : ℕ)
-    (minus : Rule (prefixed entry room (as_sign (codes "-")) (inner signed) expr.Neg) (prefixed_by entry room (as_sign (codes "-")) (inner_by signed) expr.Neg) never)
-    (nots : Rule (prefixed entry room (as_word (codes "not")) (inner negated) expr.Not) (prefixed_by entry room (as_word (codes "not")) (inner_by negated) expr.Not) (any comparison_forms))
-    (groups : Rule (group entry inner room) (group_by entry inner_by room) never) where
-  rule-atom : Rule (atom entry inner room) (atom_by entry inner_by room) never
+module _ (site : Site) (inner : Nest → Language Expr) (inner_by : Nest → Parser Expr) (room : ℕ)
+    (minus : Rule (prefixed site room (as_sign (codes "-")) (inner signed) expr.Neg) (prefixed_by site room (as_sign (codes "-")) (inner_by signed) expr.Neg) never)
+    (nots : Rule (prefixed site room (as_word (codes "not")) (inner negated) expr.Not) (prefixed_by site room (as_word (codes "not")) (inner_by negated) expr.Not) (any comparison_forms))
+    (groups : Rule (group site inner room) (group_by site inner_by room) never) where
+  rule-atom : Rule (atom site inner room) (atom_by site inner_by room) never
   unfolding atom_by
   rule-atom =
-      choose (token as_simple (within entry)) (alternative (history entry room (codes "prev") expr.Prev) (alternative (history entry room (codes "age") expr.Age) (group entry inner room)))
-      as_simple _ _ never simple_forms prev_forms looks-simple (heads-token as_simple (within entry)) (heads-prev entry inner room) refl (rule-token as_simple (within entry) some_number_token _ refl)
-      (choose (history entry room (codes "prev") expr.Prev) (alternative (history entry room (codes "age") expr.Age) (group entry inner room))
-      (as_word (codes "prev")) _ _ never (word (codes "prev") ∷ []) age_forms (looks-word (codes "prev")) (from-history entry inner room (codes "prev") expr.Prev) (heads-age entry inner room) refl
-      (rule-history entry room (codes "prev") expr.Prev)
-      (choose (history entry room (codes "age") expr.Age) (group entry inner room)
-      (as_word (codes "age")) _ _ never (word (codes "age") ∷ []) (sign (codes "(") ∷ []) (looks-word (codes "age")) (from-history entry inner room (codes "age") expr.Age) (heads-group entry inner room) refl
-      (rule-history entry room (codes "age") expr.Age) groups))
+      choose (token as_simple (within site)) (alternative (history site room (codes "prev") expr.Prev) (alternative (history site room (codes "age") expr.Age) (group site inner room)))
+      as_simple _ _ never simple_forms prev_forms looks-simple (heads-token as_simple (within site)) (heads-prev site inner room) refl (rule-token as_simple (within site) some_number_token _ refl)
+      (choose (history site room (codes "prev") expr.Prev) (alternative (history site room (codes "age") expr.Age) (group site inner room))
+      (as_word (codes "prev")) _ _ never (word (codes "prev") ∷ []) age_forms (looks-word (codes "prev")) (from-history site inner room (codes "prev") expr.Prev) (heads-age site inner room) refl
+      (rule-history site room (codes "prev") expr.Prev)
+      (choose (history site room (codes "age") expr.Age) (group site inner room)
+      (as_word (codes "age")) _ _ never (word (codes "age") ∷ []) (sign (codes "(") ∷ []) (looks-word (codes "age")) (from-history site inner room (codes "age") expr.Age) (heads-group site inner room) refl
+      (rule-history site room (codes "age") expr.Age) groups))
 
-  pub rule-unary : Rule (unary entry inner room) (unary_by entry inner_by room) never
+  pub rule-unary : Rule (unary site inner room) (unary_by site inner_by room) never
   unfolding unary_by
   rule-unary =
-      choose (prefixed entry room (as_sign (codes "-")) (inner signed) expr.Neg) (atom entry inner room) (as_sign (codes "-")) _ _ never (sign (codes "-") ∷ []) atom_forms
-      (looks-sign (codes "-")) (from-minus entry inner room) (heads-atom entry inner room) refl minus rule-atom
+      choose (prefixed site room (as_sign (codes "-")) (inner signed) expr.Neg) (atom site inner room) (as_sign (codes "-")) _ _ never (sign (codes "-") ∷ []) atom_forms
+      (looks-sign (codes "-")) (from-minus site inner room) (heads-atom site inner room) refl minus rule-atom
 
-  rule-product : Rule (product entry inner room) (product_by entry inner_by room) (any product_forms)
+  rule-product : Rule (product site inner room) (product_by site inner_by room) (any product_forms)
   unfolding product_by
-  rule-product = rule-chain entry as_product (unary entry inner room) (unary_by entry inner_by room) product_forms [] (some_sign (codes "*")) _ refl looks-product.under refl rule-unary
+  rule-product = rule-chain site as_product (unary site inner room) (unary_by site inner_by room) product_forms [] (some_sign (codes "*")) _ refl looks-product.under refl rule-unary
 
-  rule-sum : Rule (sum entry inner room) (sum_by entry inner_by room) (any sum_forms)
+  rule-sum : Rule (sum site inner room) (sum_by site inner_by room) (any sum_forms)
   unfolding sum_by
-  rule-sum = rule-chain entry as_sum (product entry inner room) (product_by entry inner_by room) sum_operators product_forms (some_sign (codes "+")) _ refl looks-sum.under refl rule-product
+  rule-sum = rule-chain site as_sum (product site inner room) (product_by site inner_by room) sum_operators product_forms (some_sign (codes "+")) _ refl looks-sum.under refl rule-product
 
   -- a comparison's second half, where there is one
   abbrev half : Expr → Language Expr
-  half left = alternative (right_of entry as_relation (sum entry inner room) left) (nothing left)
+  half left = alternative (right_of site as_relation (sum site inner room) left) (nothing left)
 
-  rule-comparison : Rule (comparison entry inner room) (comparison_by entry inner_by room) (any comparison_forms)
+  rule-comparison : Rule (comparison site inner room) (comparison_by site inner_by room) (any comparison_forms)
   unfolding comparison_by
   rule-comparison =
-      rule-then (sum entry inner room) half (sum_by entry inner_by room) (λ left. alternative_by (can as_relation) (right_by entry as_relation (sum_by entry inner_by room) left) (give left))
+      rule-then (sum site inner room) half (sum_by site inner_by room) (λ left. alternative_by (can as_relation) (right_by site as_relation (sum_by site inner_by room) left) (give left))
       (any sum_forms) (any comparison_forms)
-      (λ left. calms-alternative (right_of entry as_relation (sum entry inner room) left) (nothing left) (any sum_forms) (any comparison_forms)
-      (calms-by-heads (right_of entry as_relation (sum entry inner room) left) (can as_relation) (any sum_forms) (any comparison_forms) (goes-on left)
+      (λ left. calms-alternative (right_of site as_relation (sum site inner room) left) (nothing left) (any sum_forms) (any comparison_forms)
+      (calms-by-heads (right_of site as_relation (sum site inner room) left) (can as_relation) (any sum_forms) (any comparison_forms) (goes-on left)
       (apart-first (can as_relation) (any relation_operators) (any sum_forms) looks-relation.under (apart relation_operators sum_forms refl)))
       (calms-nothing left (any sum_forms) (any comparison_forms) (under-right relation_operators sum_forms)))
       rule-sum
-      (λ left. rule-alternative (right_of entry as_relation (sum entry inner room) left) (nothing left) (can as_relation) (right_by entry as_relation (sum_by entry inner_by room) left) (give left)
+      (λ left. rule-alternative (right_of site as_relation (sum site inner room) left) (nothing left) (can as_relation) (right_by site as_relation (sum_by site inner_by room) left) (give left)
       (any comparison_forms) (goes-on left)
       (calms-nothing left (can as_relation) (any comparison_forms)
       (under-both (can as_relation) (any relation_operators) (any comparison_forms) looks-relation.under (under-left relation_operators sum_forms)))
-      (rule-weaker (right_of entry as_relation (sum entry inner room) left) (right_by entry as_relation (sum_by entry inner_by room) left) (any sum_forms) (any comparison_forms)
+      (rule-weaker (right_of site as_relation (sum site inner room) left) (right_by site as_relation (sum_by site inner_by room) left) (any sum_forms) (any comparison_forms)
       (under-right relation_operators sum_forms) (right left))
       (rule-done left (any comparison_forms))) where
-        goes-on : (left : Expr) → Heads (right_of entry as_relation (sum entry inner room) left) (can as_relation)
+        goes-on : (left : Expr) → Heads (right_of site as_relation (sum site inner room) left) (can as_relation)
         goes-on left =
-            heads-right entry as_relation (sum entry inner room) (sum_by entry inner_by room) relation_operators sum_forms (some_sign (codes "=")) _ refl looks-relation.under refl left
+            heads-right site as_relation (sum site inner room) (sum_by site inner_by room) relation_operators sum_forms (some_sign (codes "=")) _ refl looks-relation.under refl left
 
-        right : (left : Expr) → Rule (right_of entry as_relation (sum entry inner room) left) (right_by entry as_relation (sum_by entry inner_by room) left) (any sum_forms)
+        right : (left : Expr)
+            → Rule (right_of site as_relation (sum site inner room) left) (right_by site as_relation (sum_by site inner_by room) left) (any sum_forms)
         right left =
-            rule-right entry as_relation (sum entry inner room) (sum_by entry inner_by room) relation_operators sum_forms (some_sign (codes "=")) _ refl looks-relation.under refl left rule-sum
+            rule-right site as_relation (sum site inner room) (sum_by site inner_by room) relation_operators sum_forms (some_sign (codes "=")) _ refl looks-relation.under refl left rule-sum
 
-  pub rule-negation : Rule (negation entry inner room) (negation_by entry inner_by room) (any comparison_forms)
+  pub rule-negation : Rule (negation site inner room) (negation_by site inner_by room) (any comparison_forms)
   unfolding negation_by
   rule-negation =
-      choose (prefixed entry room (as_word (codes "not")) (inner negated) expr.Not) (comparison entry inner room) (as_word (codes "not")) _ _ (any comparison_forms)
-      (word (codes "not") ∷ []) unary_forms (looks-word (codes "not")) (from-not entry inner room) (heads-comparison entry inner room) refl nots rule-comparison
+      choose (prefixed site room (as_word (codes "not")) (inner negated) expr.Not) (comparison site inner room) (as_word (codes "not")) _ _ (any comparison_forms)
+      (word (codes "not") ∷ []) unary_forms (looks-word (codes "not")) (from-not site inner room) (heads-comparison site inner room) refl nots rule-comparison
 
-  rule-conjunction : Rule (conjunction entry inner room) (conjunction_by entry inner_by room) (any and_forms)
+  rule-conjunction : Rule (conjunction site inner room) (conjunction_by site inner_by room) (any and_forms)
   unfolding conjunction_by
   rule-conjunction =
-      rule-chain entry as_and (negation entry inner room) (negation_by entry inner_by room) (word (codes "and") ∷ []) comparison_forms (some_word (codes "and")) _ refl looks-and.under refl
+      rule-chain site as_and (negation site inner room) (negation_by site inner_by room) (word (codes "and") ∷ []) comparison_forms (some_word (codes "and")) _ refl looks-and.under refl
       rule-negation
 
-  pub rule-disjunction : Rule (disjunction entry inner room) (disjunction_by entry inner_by room) (any or_forms)
+  pub rule-disjunction : Rule (disjunction site inner room) (disjunction_by site inner_by room) (any or_forms)
   unfolding disjunction_by
   rule-disjunction =
-      rule-chain entry as_or (conjunction entry inner room) (conjunction_by entry inner_by room) (word (codes "or") ∷ []) and_forms (some_word (codes "or")) _ refl looks-or-word.under refl
+      rule-chain site as_or (conjunction site inner room) (conjunction_by site inner_by room) (word (codes "or") ∷ []) and_forms (some_word (codes "or")) _ refl looks-or-word.under refl
       rule-conjunction

@@ -5,7 +5,7 @@ use Rattle.std.proofs.Common.{Ok, Err, refl, sym, ap, append_assoc, if◌then◌
 use Rattle.std.proofs.lemmas.List.{length-append, map-append}
 use native.Mathlib.Omega.{arith}
 use Rattle.ft_read.specs.meaning.Lexeme.{Lexeme}
-use Rattle.ft_parse.specs.meaning.Language.{Language, Plain, Step, alternative, lexemes, nothing, step, token, ◌▷◌}
+use Rattle.ft_parse.specs.meaning.Language.{Language, PassNoLimit, Step, alternative, lexemes, nothing, step, token, ◌▷◌}
 use Rattle.ft_read.specs.meaning.Limit.{Passes}
 use Rattle.ft_read.specs.parsers.Combinators.{Outcome, Parser, ParserState, begins, alternative_by, give, bind, read_token, state, token_as, token_of}
 use Rattle.ft_read.specs.parsers.Combinators.{◌▶◌}
@@ -20,7 +20,7 @@ Begins {A} L at steps = (more : List Step) × (a : A) × L at (steps ++ more) a
 -- it took these tokens, and they spell the value
 pub record Takes {A : Type 0} (L : Language A) (p : Parser A) (s : ParserState) (a : A) (left : ParserState) : Type 0 where
   pub steps : List Step
-  pub plain : Plain steps
+  pub no_limit : PassNoLimit steps
   pub is : s.rest ≡ lexemes steps ++ left.rest
   pub at : left.at ≡ s.at + length steps
   pub means : L s.at steps a
@@ -29,7 +29,7 @@ pub record Takes {A : Type 0} (L : Language A) (p : Parser A) (s : ParserState) 
 -- it stopped at a token with which no text goes on
 pub record Refuses {A : Type 0} (L : Language A) (p : Parser A) (s left : ParserState) : Type 0 where
   pub steps : List Step
-  pub plain : Plain steps
+  pub no_limit : PassNoLimit steps
   pub is : s.rest ≡ lexemes steps ++ left.rest
   pub at : left.at ≡ s.at + length steps
   pub begins : Begins L s.at steps
@@ -38,7 +38,7 @@ pub record Refuses {A : Type 0} (L : Language A) (p : Parser A) (s left : Parser
 -- it stopped at a token that passes a limit
 pub record Exceeds {A : Type 0} (L : Language A) (p : Parser A) (s : ParserState) (pass : Pass) (left : ParserState) : Type 0 where
   pub steps : List Step
-  pub plain : Plain steps
+  pub no_limit : PassNoLimit steps
   pub late : Lexeme
   pub rest : List Lexeme
   pub here : left.rest ≡ late ∷ rest
@@ -57,9 +57,9 @@ pub head-append : (us xs ys : List Lexeme) → head xs ≡ head ys → head (us 
 head-append [] xs ys e = e
 head-append (u ∷ us) xs ys e = refl
 
-pub plain-append : (us vs : List Step) → Plain us → Plain vs → Plain (us ++ vs)
-plain-append [] vs p q = q
-plain-append (u ∷ us) vs (e, p) q = (e, plain-append us vs p q)
+pub no_limit-append : (us vs : List Step) → PassNoLimit us → PassNoLimit vs → PassNoLimit (us ++ vs)
+no_limit-append [] vs p q = q
+no_limit-append (u ∷ us) vs (e, p) q = (e, no_limit-append us vs p q)
 
 lexemes-append : (us vs : List Step) → lexemes (us ++ vs) ≡ lexemes us ++ lexemes vs
 lexemes-append us vs = map-append (λ (s : Step). s.lexeme) us vs
@@ -90,7 +90,7 @@ module _ {A B : Type 0} (L : Language A) (M : A → Language B) (p : Parser A) (
   unfolding ◌▷◌
   then-second s a mid g (Ok b, left) h = record {
     steps = g.steps ++ h.steps;
-    plain = plain-append g.steps h.steps g.plain h.plain;
+    no_limit = no_limit-append g.steps h.steps g.no_limit h.no_limit;
     is = then-is s mid left g.steps h.steps g.is h.is;
     at = counts s.at mid.at left.at g.steps h.steps g.at h.at;
     means = (a, g.steps, h.steps, refl, g.means, rw (sym g.at) h.means);
@@ -101,7 +101,7 @@ module _ {A B : Type 0} (L : Language A) (M : A → Language B) (p : Parser A) (
       let (more, b, means) = h.begins in
       record {
         steps = g.steps ++ h.steps;
-        plain = plain-append g.steps h.steps g.plain h.plain;
+        no_limit = no_limit-append g.steps h.steps g.no_limit h.no_limit;
         is = then-is s mid left g.steps h.steps g.is h.is;
         at = counts s.at mid.at left.at g.steps h.steps g.at h.at;
         begins = (more, b, (a, g.steps, h.steps ++ more, append_assoc g.steps h.steps more, g.means, rw (sym g.at) means));
@@ -112,7 +112,7 @@ module _ {A B : Type 0} (L : Language A) (M : A → Language B) (p : Parser A) (
       let (more, b, means) = h.begins in
       record {
         steps = g.steps ++ h.steps;
-        plain = plain-append g.steps h.steps g.plain h.plain;
+        no_limit = no_limit-append g.steps h.steps g.no_limit h.no_limit;
         late = h.late;
         rest = h.rest;
         here = h.here;
@@ -145,7 +145,7 @@ module _ {A B : Type 0} (L : Language A) (M : A → Language B) (p : Parser A) (
       let (after, b, others) = sample a (s.at + length (g.steps ++ more)) in
       record {
         steps = g.steps;
-        plain = g.plain;
+        no_limit = g.no_limit;
         is = g.is;
         at = g.at;
         begins = (more ++ after, b, (a, g.steps ++ more, after, sym (append_assoc g.steps more after), means, others));
@@ -157,7 +157,7 @@ module _ {A B : Type 0} (L : Language A) (M : A → Language B) (p : Parser A) (
       let (after, b, others) = sample a (s.at + length (front ++ more)) in
       record {
         steps = g.steps;
-        plain = g.plain;
+        no_limit = g.no_limit;
         late = g.late;
         rest = g.rest;
         here = g.here;
@@ -170,7 +170,7 @@ module _ {A B : Type 0} (L : Language A) (M : A → Language B) (p : Parser A) (
 
 -- nothing is taken
 pub faithful-give : {A : Type 0} (a : A) (s : ParserState) → Faithful (nothing a) (give a) s (give a s)
-faithful-give a s = record { steps = []; plain = tt; is = refl; at = omega arith; means = (refl, refl); again = λ more f. refl }
+faithful-give a s = record { steps = []; no_limit = tt; is = refl; at = omega arith; means = (refl, refl); again = λ more f. refl }
 
 -- a claim on the tokens that start as these
 pub at-first : (F : List Lexeme → Type 0) (l : Lexeme) → ((ls : List Lexeme) → F (l ∷ ls)) → (more : List Lexeme) → head more ≡ Some l
@@ -187,7 +187,7 @@ module _ {A : Type 0} (read : Lexeme → Option A) (passes : Passes) (sample : (
       → Faithful (token read passes) (read_token read passes) (state at (l ∷ rest)) (token_as r p at l rest)
   by-parts at l rest None p e f = record {
     steps = [];
-    plain = tt;
+    no_limit = tt;
     is = refl;
     at = omega arith;
     begins = sample at;
@@ -195,7 +195,7 @@ module _ {A : Type 0} (read : Lexeme → Option A) (passes : Passes) (sample : (
   }
   by-parts at l rest (Some a) None e f = record {
     steps = step l None ∷ [];
-    plain = (refl, tt);
+    no_limit = (refl, tt);
     is = refl;
     at = omega arith;
     means = (l, ap (λ (p : Option Pass). step l p ∷ []) (sym f), e);
@@ -203,7 +203,7 @@ module _ {A : Type 0} (read : Lexeme → Option A) (passes : Passes) (sample : (
   }
   by-parts at l rest (Some a) (Some pass) e f = record {
     steps = [];
-    plain = tt;
+    no_limit = tt;
     late = l;
     rest = rest;
     here = refl;
@@ -217,7 +217,7 @@ module _ {A : Type 0} (read : Lexeme → Option A) (passes : Passes) (sample : (
       → Faithful (token read passes) (read_token read passes) (state at rest) (token_of read passes at rest)
   by-rest at [] = record {
     steps = [];
-    plain = tt;
+    no_limit = tt;
     is = refl;
     at = omega arith;
     begins = sample at;
@@ -239,7 +239,7 @@ module _ {A : Type 0} (K L : Language A) (p q : Parser A) (into : (at : ℕ) (st
   pub faithful-wider : (o : Outcome A) → Faithful K p s o → Faithful L q s o
   faithful-wider (Ok a, left) g = record {
     steps = g.steps;
-    plain = g.plain;
+    no_limit = g.no_limit;
     is = g.is;
     at = g.at;
     means = into s.at g.steps a g.means;
@@ -249,7 +249,7 @@ module _ {A : Type 0} (K L : Language A) (p q : Parser A) (into : (at : ℕ) (st
       let (more, a, means) = g.begins in
       record {
         steps = g.steps;
-        plain = g.plain;
+        no_limit = g.no_limit;
         is = g.is;
         at = g.at;
         begins = (more, a, into s.at (g.steps ++ more) a means);
@@ -259,7 +259,7 @@ module _ {A : Type 0} (K L : Language A) (p q : Parser A) (into : (at : ℕ) (st
       let (more, a, means) = g.begins in
       record {
         steps = g.steps;
-        plain = g.plain;
+        no_limit = g.no_limit;
         late = g.late;
         rest = g.rest;
         here = g.here;

@@ -6,7 +6,7 @@ use Rattle.ft_base.specs.declared.place.Place.{Place}
 use Rattle.ft_lex.specs.Tokens.{OneTokens}
 use Rattle.ft_tree.specs.declared.tree.Tree.{Tree}
 use Rattle.ft_read.specs.meaning.Lexeme.{Lexeme, lexemes_of}
-use Rattle.ft_parse.specs.meaning.Language.{Plain, Step, lexemes, step}
+use Rattle.ft_parse.specs.meaning.Language.{PassNoLimit, Step, lexemes, step}
 use Rattle.ft_parse.specs.meaning.Items.{set}
 use Rattle.ft_parse.specs.laws.Uniqueness.{FaultOrTree, OneFault, OneTree}
 use Rattle.ft_parse.specs.meaning.Parse.{AreLexemes, GoesOn, IsLimitFault, IsSyntaxFault, Spells, parts_of}
@@ -36,18 +36,18 @@ cut (x ∷ f) (y ∷ g) b c r s e =
     ]
 
 -- no token of a plain front passes a limit
-no-pass : (before after b a : List Step) (bad : Lexeme) (mid : List Lexeme) (pass : Pass) → Plain before
+no-pass : (before after b a : List Step) (bad : Lexeme) (mid : List Lexeme) (pass : Pass) → PassNoLimit before
     → lexemes before ≡ lexemes b ++ bad ∷ mid → before ++ after ≡ b ++ step bad (Some pass) ∷ a → ⊥
-no-pass [] after [] a bad mid pass plain e f = cc e
-no-pass [] after (v ∷ vs) a bad mid pass plain e f = cc e
-no-pass (u ∷ us) after [] a bad mid pass (none, plain) e f =
+no-pass [] after [] a bad mid pass no_limit e f = cc e
+no-pass [] after (v ∷ vs) a bad mid pass no_limit e f = cc e
+no-pass (u ∷ us) after [] a bad mid pass (none, no_limit) e f =
     let same : u ≡ step bad (Some pass) = cc f in
     let passes : u.pass ≡ Some pass = ap (λ (s : Step). s.pass) same in
     cc (none, passes)
-no-pass (u ∷ us) after (v ∷ vs) a bad mid pass (none, plain) e f =
+no-pass (u ∷ us) after (v ∷ vs) a bad mid pass (none, no_limit) e f =
     let tails : lexemes us ≡ lexemes vs ++ bad ∷ mid = cc e in
     let others : us ++ after ≡ vs ++ step bad (Some pass) ∷ a = cc f in
-    no-pass us after vs a bad mid pass plain tails others
+    no-pass us after vs a bad mid pass no_limit tails others
 
 -- after as many tokens the limits passed are the same
 same-pass : (us vs : List Step) (l k : Lexeme) (p q : Pass) (a b : List Step) → lexemes us ≡ lexemes vs
@@ -88,20 +88,20 @@ of-limit : (text : List ℕ) (pass : Pass) → (f : IsLimitFault text pass) → 
 of-limit text pass f = record {
   rest = f.rest;
   are = f.are;
-  begins = let (after, parts, h) = f.begins in (f.before, step f.late (Some pass) ∷ after, parts, f.same, f.plain, h);
-  stops = λ steps others parts e h. let (b, a, plain, same, is) = f.always steps others parts e h in (pass, b, a, same, is);
+  begins = let (after, parts, h) = f.begins in (f.before, step f.late (Some pass) ∷ after, parts, f.same, f.no_limit, h);
+  stops = λ steps others parts e h. let (b, a, no_limit, same, is) = f.always steps others parts e h in (pass, b, a, same, is);
 }
 
 -- no halt stands within a front that goes on
 not-within : (front : List Lexeme) (bad : Lexeme) (longer mid : List Lexeme) → Stops front bad → GoesOn longer
     → longer ≡ front ++ bad ∷ mid → ⊥
-not-within front bad longer mid stops (before, after, parts, same, plain, h) is =
+not-within front bad longer mid stops (before, after, parts, same, no_limit, h) is =
     let begin : lexemes before ≡ front ++ bad ∷ mid = same ∙ is in
     let whole : lexemes (before ++ after) ≡ front ++ bad ∷ (mid ++ lexemes after) =
     map-append (λ (s : Step). s.lexeme) before after ∙ ap (λ (ls : List Lexeme). ls ++ lexemes after) begin
     ∙ append_assoc front (bad ∷ mid) (lexemes after) in
     let (pass, b, a, fronts, split) = stops (before ++ after) (mid ++ lexemes after) parts whole h in
-    no-pass before after b a bad mid pass plain (begin ∙ ap (λ (ls : List Lexeme). ls ++ bad ∷ mid) (sym fronts)) split
+    no-pass before after b a bad mid pass no_limit (begin ∙ ap (λ (ls : List Lexeme). ls ++ bad ∷ mid) (sym fronts)) split
 
 -- the lexemes of a text are determined
 same-lexemes : OneTokens → (text : List ℕ) (ls ks : List Lexeme) → AreLexemes text ls → AreLexemes text ks → ls ≡ ks
@@ -143,7 +143,7 @@ one-limit law text p q f g =
     let (fronts, same) = one-halt law text f.front g.front f.late g.late (of-limit text p f) (of-limit text q g) in
     let (after, parts, h) = f.begins in
     let whole = goes-with f.before after f.late p f.front f.same ∙ (λ i. fronts i ++ same i ∷ lexemes after) in
-    let (b, a, plain, begin, is) = g.always (f.before ++ step f.late (Some p) ∷ after) (lexemes after) parts whole h in
+    let (b, a, no_limit, begin, is) = g.always (f.before ++ step f.late (Some p) ∷ after) (lexemes after) parts whole h in
     same-pass f.before b f.late g.late p q after a (f.same ∙ fronts ∙ sym begin) is
 
 abbrev limit_fault : Pass → ParseFault
@@ -164,7 +164,7 @@ no-halt : OneTokens → (text : List ℕ) (tree : Tree) (front : List Lexeme) (b
 no-halt law text tree front bad s h =
     let begin : lexemes s.steps ≡ front ++ bad ∷ h.rest = same-lexemes law text (lexemes s.steps) (front ++ bad ∷ h.rest) s.are h.are in
     not-within front bad (lexemes s.steps) h.rest h.stops
-    (s.steps, [], parts_of tree, refl, s.plain, subst (λ (steps : List Step). set 0 steps (parts_of tree)) (sym (append-nil s.steps)) s.grammar) begin
+    (s.steps, [], parts_of tree, refl, s.no_limit, subst (λ (steps : List Step). set 0 steps (parts_of tree)) (sym (append-nil s.steps)) s.grammar) begin
 
 pub fault-or-tree : OneTokens → FaultOrTree
 fault-or-tree law text tree (Syntax place) s of_text f = no-halt law text tree f.front f.bad s (of-syntax text place f)

@@ -20,7 +20,7 @@ use Rattle.ft_parse.specs.meaning.Expressions.{Nest, atom, chain, comparison, co
 use Rattle.ft_parse.specs.meaning.Expressions.{negation, nested, prefixed, product, right_of, signed, sum, unary, whole}
 use Rattle.ft_read.specs.meaning.Operators.{as_and, as_or, as_product, as_relation, as_sum}
 use Rattle.ft_parse.specs.meaning.Items
-use Rattle.ft_read.specs.declared.parts.Entry.{Entry}
+use Rattle.ft_read.specs.declared.parts.Site.{Site}
 use Rattle.ft_read.specs.declared.parts.Operator.{Operator}
 use Rattle.ft_parse.specs.declared.parts.Parts.{Parts}
 use Rattle.ft_read.specs.declared.parts.SectionAt.{SectionAt}
@@ -118,52 +118,56 @@ a-sign w = a-token (looks-sign w) refl
 a-name : {passes : Passes} → Inner (token as_name passes)
 a-name = a-token looks-name refl
 
-module _ (entry : Entry) (inner : Nest → Language Expr) (room : ℕ) (within : (nest : Nest) → Inner (inner nest)) where
-  in-right : (ops : Lexeme → Option Operator) (fs : List Form) (operand : Language Expr) → Looks ops fs → are_inner fs ≡ true → Inner operand → (left : Expr) → Inner (right_of entry ops operand left)
+module _ (site : Site) (inner : Nest → Language Expr) (room : ℕ) (within : (nest : Nest) → Inner (inner nest)) where
+  in-right : (ops : Lexeme → Option Operator) (fs : List Form) (operand : Language Expr) → Looks ops fs → are_inner fs ≡ true
+      → Inner operand → (left : Expr) → Inner (right_of site ops operand left)
   in-right ops fs operand looks d r left = a-token looks d ◇ λ o. r ◇ λ right. a-nothing
 
-  in-chain : (ops : Lexeme → Option Operator) (fs : List Form) (operand : Language Expr) → Looks ops fs → are_inner fs ≡ true → Inner operand → Inner (chain entry ops operand)
+  in-chain : (ops : Lexeme → Option Operator) (fs : List Form) (operand : Language Expr) → Looks ops fs → are_inner fs ≡ true
+      → Inner operand → Inner (chain site ops operand)
   in-chain ops fs operand looks d r = r ◇ λ left. again left (in-right ops fs operand looks d r)
 
-  in-history : (w : List ℕ) (make : List ℕ → Place → Expr) → Inner (history entry room w make)
+  in-history : (w : List ℕ) (make : List ℕ → Place → Expr) → Inner (history site room w make)
   in-history w make = a-word w ◇ λ place. a-sign (codes "(") ◇ λ _. a-name ◇ λ name. a-sign (codes ")") ◇ λ _. a-nothing
 
-  in-group : Inner (group entry inner room)
+  in-group : Inner (group site inner room)
   in-group = a-sign (codes "(") ◇ λ _. within whole ◇ λ e. a-sign (codes ")") ◇ λ _. a-nothing
 
-  in-prefixed : (read : Lexeme → Option Place) (fs : List Form) (nest : Nest) (make : Expr → Place → Expr) → Looks read fs → are_inner fs ≡ true → Inner (prefixed entry room read (inner nest) make)
+  in-prefixed : (read : Lexeme → Option Place) (fs : List Form) (nest : Nest) (make : Expr → Place → Expr) → Looks read fs
+      → are_inner fs ≡ true → Inner (prefixed site room read (inner nest) make)
   in-prefixed read fs nest make looks d = a-token looks d ◇ λ place. within nest ◇ λ e. a-nothing
 
-  in-atom : Inner (atom entry inner room)
+  in-atom : Inner (atom site inner room)
   in-atom = one-of (a-token looks-simple refl) (one-of (in-history (codes "prev") expr.Prev) (one-of (in-history (codes "age") expr.Age) in-group))
 
-  in-unary : Inner (unary entry inner room)
+  in-unary : Inner (unary site inner room)
   in-unary = one-of (in-prefixed (as_sign (codes "-")) _ signed expr.Neg (looks-sign (codes "-")) refl) in-atom
 
-  in-product : Inner (product entry inner room)
-  in-product = in-chain as_product _ (unary entry inner room) looks-product refl in-unary
+  in-product : Inner (product site inner room)
+  in-product = in-chain as_product _ (unary site inner room) looks-product refl in-unary
 
-  in-sum : Inner (sum entry inner room)
-  in-sum = in-chain as_sum _ (product entry inner room) looks-sum refl in-product
+  in-sum : Inner (sum site inner room)
+  in-sum = in-chain as_sum _ (product site inner room) looks-sum refl in-product
 
-  in-comparison : Inner (comparison entry inner room)
-  in-comparison = in-sum ◇ λ left. one-of (in-right as_relation _ (sum entry inner room) looks-relation refl in-sum left) a-nothing
+  in-comparison : Inner (comparison site inner room)
+  in-comparison = in-sum ◇ λ left. one-of (in-right as_relation _ (sum site inner room) looks-relation refl in-sum left) a-nothing
 
-  in-negation : Inner (negation entry inner room)
+  in-negation : Inner (negation site inner room)
   in-negation = one-of (in-prefixed (as_word (codes "not")) _ negated expr.Not (looks-word (codes "not")) refl) in-comparison
 
-  in-conjunction : Inner (conjunction entry inner room)
-  in-conjunction = in-chain as_and _ (negation entry inner room) looks-and refl in-negation
+  in-conjunction : Inner (conjunction site inner room)
+  in-conjunction = in-chain as_and _ (negation site inner room) looks-and refl in-negation
 
-  in-layer : (nest : Nest) → Inner (layer entry inner room nest)
-  in-layer whole = in-chain as_or _ (conjunction entry inner room) looks-or-word refl in-conjunction
+  in-layer : (nest : Nest) → Inner (layer site inner room nest)
+  in-layer whole = in-chain as_or _ (conjunction site inner room) looks-or-word refl in-conjunction
   in-layer negated = in-negation
   in-layer signed = in-unary
 
-in-nested : (n : ℕ) (entry : Entry) (room : ℕ) (nest : Nest) → Inner (nested n entry room nest)
+in-nested : (n : ℕ) (site : Site) (room : ℕ) (nest : Nest) → Inner (nested n site room nest)
 unfolding nested
-in-nested zero entry room nest = record { all = λ at steps e h. absurd h }
-in-nested (suc n) entry room nest = record { all = λ at steps e h. (in-layer entry (nested n entry (room - 1)) room (λ k. in-nested n entry (room - 1) k) nest).all at steps e h }
+in-nested zero site room nest = record { all = λ at steps e h. absurd h }
+in-nested (suc n) site room nest =
+    record { all = λ at steps e h. (in-layer site (nested n site (room - 1)) room (λ k. in-nested n site (room - 1) k) nest).all at steps e h }
 
 in-expression : (is_beyond : Bool) → Inner (expression is_beyond)
 in-expression is_beyond = record { all = λ at steps e h. let (first, more, n, is, x) = h in (in-nested n _ 64 whole).all at steps e x }

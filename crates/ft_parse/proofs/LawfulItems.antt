@@ -25,7 +25,7 @@ use Rattle.ft_tree.specs.meaning.Limits.{is_plain, is_row, is_same_sort, is_side
 use Rattle.ft_tree.specs.meaning.Limits.{types, variables}
 use Rattle.ft_base.specs.Names.{is_name}
 use Rattle.ft_read.specs.meaning.Lexeme.{Lexeme, as_end, as_name, as_sign, as_word}
-use Rattle.ft_parse.specs.meaning.Language.{Language, Plain, Step, alternative, lexemes, nothing, repeated, step, times, token, ◌▷◌}
+use Rattle.ft_parse.specs.meaning.Language.{Language, PassNoLimit, Step, alternative, lexemes, nothing, repeated, step, times, token, ◌▷◌}
 use Rattle.ft_read.specs.meaning.Limit.{Passes, no_pass, lexical_passes, counted, counted_at}
 use Rattle.ft_parse.specs.meaning.Room.{is_full, no_more_facts}
 use Rattle.ft_parse.specs.meaning.Expressions.{expression}
@@ -36,7 +36,7 @@ use Rattle.ft_read.specs.declared.parts.SectionAt.{SectionAt}
 use Rattle.ft_read.specs.declared.stop.LimitWord.{LimitWord}
 use Rattle.ft_read.specs.declared.stop.LimitWord.TheVariants as limit
 use Rattle.ft_parse.proofs.LawfulExpressions.{lawful-expression}
-use Rattle.ft_parse.proofs.RealTokens.{AllGood, IncludesLexical, Reads, first-none, good-parts, good-steps, reads-any, reads-map, reads-name}
+use Rattle.ft_parse.proofs.RealTokens.{AllGood, IncludesLexical, ReadsLawful, first-none, good-parts, good-steps, reads-any, reads-map, reads-name}
 use Rattle.ft_parse.proofs.RealTokens.{reads-number, reads-or, so-none}
 use Rattle.ft_read.specs.meaning.Choices.{as_map, as_side, as_start, as_var_word, as_moment, as_plain, as_truth}
 
@@ -44,7 +44,7 @@ use Rattle.ft_read.specs.meaning.Choices.{as_map, as_side, as_start, as_var_word
 pub record Gives {A : Type 0} (L : Language A) (P : A → Type 0) : Type 0 where
   pub all : (at : ℕ) (steps : List Step) (a : A) → L at steps a → AllGood steps → P a
 
-gives-token : {A : Type 0} {read : Lexeme → Option A} {passes : Passes} {P : A → Type 0} → Reads passes read P
+gives-token : {A : Type 0} {read : Lexeme → Option A} {passes : Passes} {P : A → Type 0} → ReadsLawful passes read P
     → Gives (token read passes) P
 gives-token {A} {read} {passes} {P} reads = record { all = all } where
   by-step : (at : ℕ) (l : Lexeme) (a : A) → read l ≡ Some a → AllGood (step l (passes at l) ∷ []) → P a
@@ -110,10 +110,10 @@ a-number = gives-token (reads-number lexical-includes)
 
 -- a token for which there was room
 reads-room : {A : Type 0} (full : Bool) (which : LimitWord) (read : Lexeme → Option A)
-    → Reads (counted full which) read (λ a. full ≡ false)
+    → ReadsLawful (counted full which) read (λ a. full ≡ false)
 reads-room {A} full which read = record { gives = λ at l a real p e. so-none full _ _ (first-none _ _ p).1 }
 
-reads-counted : (full : Bool) (which : LimitWord) → Reads (counted full which) as_name (λ w. (is_word w ≡ true) × (full ≡ false))
+reads-counted : (full : Bool) (which : LimitWord) → ReadsLawful (counted full which) as_name (λ w. (is_word w ≡ true) × (full ≡ false))
 reads-counted full which = record {
   gives = λ at l w real p e. ((reads-name (counted-includes full which)).gives at l w real p e, so-none full _ _ (first-none _ _ p).1);
 }
@@ -159,7 +159,7 @@ many-count : {A : Type 0} {test : A → Bool} (limit : ℕ) (xs : List A) → Ma
     → is_count limit (length xs) ≡ true
 many-count {A} {test} limit xs m = let (n, e, f) = m.last in count-room limit (length xs) n e f
 
-reads-plain : Reads lexical_passes as_plain (λ b. (is_bound b ≡ true) × (b.minus ≡ false))
+reads-plain : ReadsLawful lexical_passes as_plain (λ b. (is_bound b ≡ true) × (b.minus ≡ false))
 reads-plain =
     reads-or (reads-map (λ n. record { minus = false; value = plain.Number n.value; place = n.place }) (reads-number lexical-includes)
     (λ n e. (e, refl)))
@@ -180,7 +180,7 @@ init-value minus (plain.Number value) e = e
 init-value minus (plain.Name name) e = e
 init-value minus (plain.Truth value) e = cc e
 
-reads-truth : Reads no_pass as_truth (λ b. is_init b ≡ true)
+reads-truth : ReadsLawful no_pass as_truth (λ b. is_init b ≡ true)
 reads-truth =
     reads-or (reads-map (λ place. record { minus = false; value = plain.Truth true; place = place })
     (reads-any (as_word (codes "true"))) (λ place _. refl))
@@ -289,7 +289,7 @@ in-vector before s room =
     (list_all is_vrow rows) e (many-count 32 rows m) m.every) room)
 
 reads-vector : (before : List Item) (place : Place)
-    → Reads (counted_at (is_full tables before) limit.Tables place) (as_word (codes "vector")) (λ _. is_full tables before ≡ false)
+    → ReadsLawful (counted_at (is_full tables before) limit.Tables place) (as_word (codes "vector")) (λ _. is_full tables before ≡ false)
 reads-vector before place = record { gives = λ at l a real p e. so-none (is_full tables before) _ _ (first-none _ _ p).1 }
 
 in-table : (before : List Item) (s : SectionAt) → Gives (Items.table before s) (Follows before)
@@ -415,7 +415,7 @@ in-block before =
     in-several is_fact (no_more_facts before) (in-fact before) ◇ λ facts m. a-sign (codes "}") ◇ λ _ _.
     done (follows-block before w takes uses facts h.0 h.1 t u m)
 
-reads-side : Reads no_pass as_side (λ s. is_side s.word ≡ true)
+reads-side : ReadsLawful no_pass as_side (λ s. is_side s.word ≡ true)
 reads-side =
     reads-or (reads-map (λ place. record { word = section.Req; place = place }) (reads-any (as_word (codes "req")))
     (λ place _. refl))
@@ -491,6 +491,6 @@ in-set =
 
 -- a text that is read within the limits gives the parts of a tree
 pub lawful-parts : (text : List ℕ) (steps : List Step) (parts : Parts) → AreLexemes text (lexemes steps) → Items.set 0 steps parts
-    → Plain steps
+    → PassNoLimit steps
     → IsSet parts.name parts.period parts.splits parts.depth parts.items
-lawful-parts text steps parts are h plain = in-set.all 0 steps parts h (good-steps text steps are plain)
+lawful-parts text steps parts are h no_limit = in-set.all 0 steps parts h (good-steps text steps are no_limit)

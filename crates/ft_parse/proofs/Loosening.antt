@@ -8,20 +8,20 @@ use Rattle.ft_parse.specs.meaning.Language.{Language, Step, times, ◌▷◌}
 use Rattle.ft_parse.specs.meaning.Expressions.{Nest, atom, chain, comparison, conjunction, disjunction, negation, product, right_of, sum}
 use Rattle.ft_parse.specs.meaning.Expressions.{unary}
 use Rattle.ft_read.specs.meaning.Operators.{as_and, as_or, as_product, as_sum}
-use Rattle.ft_read.specs.declared.parts.Entry.{Entry}
+use Rattle.ft_read.specs.declared.parts.Site.{Site}
 use Rattle.ft_read.specs.declared.parts.Operator.{Operator}
 use Rattle.ft_parse.proofs.Writes.{Within}
 
 -- the part of a rank
-abbrev pub part_at : Entry → (Nest → Language Expr) → (room : ℕ) → ℕ → Language Expr
-part_at entry inner room zero = disjunction entry inner room
-part_at entry inner room (suc zero) = conjunction entry inner room
-part_at entry inner room (suc (suc zero)) = negation entry inner room
-part_at entry inner room (suc (suc (suc zero))) = comparison entry inner room
-part_at entry inner room (suc (suc (suc (suc zero)))) = sum entry inner room
-part_at entry inner room (suc (suc (suc (suc (suc zero))))) = product entry inner room
-part_at entry inner room (suc (suc (suc (suc (suc (suc zero)))))) = unary entry inner room
-part_at entry inner room (suc (suc (suc (suc (suc (suc (suc r))))))) = atom entry inner room
+abbrev pub part_at : Site → (Nest → Language Expr) → (room : ℕ) → ℕ → Language Expr
+part_at site inner room zero = disjunction site inner room
+part_at site inner room (suc zero) = conjunction site inner room
+part_at site inner room (suc (suc zero)) = negation site inner room
+part_at site inner room (suc (suc (suc zero))) = comparison site inner room
+part_at site inner room (suc (suc (suc (suc zero)))) = sum site inner room
+part_at site inner room (suc (suc (suc (suc (suc zero))))) = product site inner room
+part_at site inner room (suc (suc (suc (suc (suc (suc zero)))))) = unary site inner room
+part_at site inner room (suc (suc (suc (suc (suc (suc (suc r))))))) = atom site inner room
 
 -- the rank so many after one
 abbrev pub tighter_by : ℕ → ℕ → ℕ
@@ -32,26 +32,26 @@ pub tighter_by-is : (k r : ℕ) → tighter_by k r ≡ k + r
 tighter_by-is zero r = omega arith
 tighter_by-is (suc k) r = omega (arith, tighter_by-is k r)
 
-chained : (entry : Entry) (ops : Lexeme → Option Operator) (operand : Language Expr) → Within operand (chain entry ops operand)
+chained : (site : Site) (ops : Lexeme → Option Operator) (operand : Language Expr) → Within operand (chain site ops operand)
 unfolding ◌▷◌ times
-chained entry ops operand = record { up = λ at steps e h. (e, steps, [], sym (append-nil steps), h, (0, (refl, refl))) }
+chained site ops operand = record { up = λ at steps e h. (e, steps, [], sym (append-nil steps), h, (0, (refl, refl))) }
 
-compared : (entry : Entry) (inner : Nest → Language Expr) (room : ℕ) → Within (sum entry inner room) (comparison entry inner room)
+compared : (site : Site) (inner : Nest → Language Expr) (room : ℕ) → Within (sum site inner room) (comparison site inner room)
 unfolding ◌▷◌
-compared entry inner room = record { up = λ at steps e h. (e, steps, [], sym (append-nil steps), h, inr (refl, refl)) }
+compared site inner room = record { up = λ at steps e h. (e, steps, [], sym (append-nil steps), h, inr (refl, refl)) }
 
-module _ (entry : Entry) (inner : Nest → Language Expr) (room : ℕ) where
-  looser : (r : ℕ) → Within (part_at entry inner room (suc r)) (part_at entry inner room r)
-  looser zero = chained entry as_or (conjunction entry inner room)
-  looser (suc zero) = chained entry as_and (negation entry inner room)
+module _ (site : Site) (inner : Nest → Language Expr) (room : ℕ) where
+  looser : (r : ℕ) → Within (part_at site inner room (suc r)) (part_at site inner room r)
+  looser zero = chained site as_or (conjunction site inner room)
+  looser (suc zero) = chained site as_and (negation site inner room)
   looser (suc (suc zero)) = record { up = λ at steps e h. inr h }
-  looser (suc (suc (suc zero))) = compared entry inner room
-  looser (suc (suc (suc (suc zero)))) = chained entry as_sum (product entry inner room)
-  looser (suc (suc (suc (suc (suc zero))))) = chained entry as_product (unary entry inner room)
+  looser (suc (suc (suc zero))) = compared site inner room
+  looser (suc (suc (suc (suc zero)))) = chained site as_sum (product site inner room)
+  looser (suc (suc (suc (suc (suc zero))))) = chained site as_product (unary site inner room)
   looser (suc (suc (suc (suc (suc (suc zero)))))) = record { up = λ at steps e h. inr h }
   looser (suc (suc (suc (suc (suc (suc (suc r))))))) = record { up = λ at steps e h. h }
 
-  pub loosen : (k r : ℕ) → Within (part_at entry inner room (tighter_by k r)) (part_at entry inner room r)
+  pub loosen : (k r : ℕ) → Within (part_at site inner room (tighter_by k r)) (part_at site inner room r)
   loosen zero r = record { up = λ at steps e h. h }
   loosen (suc k) r = record { up = λ at steps e h. (loosen k r).up at steps e ((looser (tighter_by k r)).up at steps e h) }
 
@@ -76,12 +76,12 @@ times-more part (suc n) at us vs a b c (d, u, w, is, f, t) h =
     )
 
 -- a chain goes on
-pub chain-more : (entry : Entry) (ops : Lexeme → Option Operator) (operand : Language Expr)
-    → Within (chain entry ops operand ▷ λ left. right_of entry ops operand left) (chain entry ops operand)
+pub chain-more : (site : Site) (ops : Lexeme → Option Operator) (operand : Language Expr)
+    → Within (chain site ops operand ▷ λ left. right_of site ops operand left) (chain site ops operand)
 unfolding ◌▷◌
-chain-more entry ops operand = record { up = go } where
-  go : (at : ℕ) (steps : List Step) (e : Expr) → (chain entry ops operand ▷ λ left. right_of entry ops operand left) at steps e
-      → chain entry ops operand at steps e
+chain-more site ops operand = record { up = go } where
+  go : (at : ℕ) (steps : List Step) (e : Expr) → (chain site ops operand ▷ λ left. right_of site ops operand left) at steps e
+      → chain site ops operand at steps e
   go at steps e (left, us, vs, is, (first, u, w, split, f, (n, t)), h) =
       let long : length us ≡ length u + length w = ap length split ∙ length-append u w in
       let place : at + length us ≡ at + length u + length w = omega (arith, long) in (
@@ -92,7 +92,7 @@ chain-more entry ops operand = record { up = go } where
         f,
         (
           suc n,
-          times-more (right_of entry ops operand) n (at + length u) w vs first left e t
-              (subst (λ (k : ℕ). right_of entry ops operand left k vs e) place h),
+          times-more (right_of site ops operand) n (at + length u) w vs first left e t
+              (subst (λ (k : ℕ). right_of site ops operand left k vs e) place h),
         ),
       )

@@ -12,7 +12,7 @@ use Rattle.ft_parse.specs.meaning.Expressions.{negation, nested, prefixed, produ
 use Rattle.ft_read.specs.meaning.Operators.{as_and, as_or, as_product, as_relation, as_sum, two}
 use Rattle.ft_read.specs.parsers.Combinators.{Outcome, Parser, ParserState, can, give, bind, read_token, state, token_as, ◌▶◌}
 use Rattle.ft_parse.specs.parsers.Expressions.{expression_by, expression_from, group_by, layer_by, nested_by, prefixed_by, refuse}
-use Rattle.ft_read.specs.declared.parts.Entry.{Entry}
+use Rattle.ft_read.specs.declared.parts.Site.{Site}
 use Rattle.ft_read.specs.declared.parts.Operator.{Operator}
 use Rattle.ft_read.specs.declared.stop.LimitWord.TheVariants as limit
 use Rattle.ft_read.specs.declared.stop.Pass.{Pass}
@@ -36,7 +36,7 @@ module _ {A B : Type 0} (read : Lexeme → Option A) (passes : Passes) (M : A �
   stopped b s mid g =
       let (x, is, e) = g.means in
       let (p, passed) = always s.at x in
-      let (none, rest) = rw is at g.plain in
+      let (none, rest) = rw is at g.no_limit in
       cc (passed, none)
 
   not-read : (at : ℕ) (steps : List Step) (b : B) (rest : List Lexeme) → (token read passes ▷ M) at steps b
@@ -64,8 +64,8 @@ module _ {A B : Type 0} (read : Lexeme → Option A) (passes : Passes) (M : A �
   }
 
 -- nothing more may open
-no-room : (entry : Entry) (at : ℕ) (l : Lexeme) → (p : Pass) × (opening entry 0 at l ≡ Some p)
-no-room entry at l = by-pass (within entry at l) where
+no-room : (site : Site) (at : ℕ) (l : Lexeme) → (p : Pass) × (opening site 0 at l ≡ Some p)
+no-room site at l = by-pass (within site at l) where
   by-pass : (o : Option Pass) → (p : Pass) × (or_else o (where_so true limit.Nesting l.place) ≡ Some p)
   by-pass (Some p) = (p, refl)
   by-pass None = (_, refl)
@@ -76,44 +76,45 @@ goes whole = any or_forms
 goes negated = any comparison_forms
 goes signed = never
 
-calms-close : (entry : Entry) (e : Expr) → Calms (token (as_sign (codes ")")) (within entry) ▷ λ _. nothing e) (any or_forms) never
-calms-close entry e =
-    calms-by-heads (token (as_sign (codes ")")) (within entry) ▷ λ _. nothing e) (can (as_sign (codes ")"))) (any or_forms) never
-    (heads-then (token (as_sign (codes ")")) (within entry)) _ (can (as_sign (codes ")"))) (heads-token (as_sign (codes ")")) (within entry)))
+calms-close : (site : Site) (e : Expr) → Calms (token (as_sign (codes ")")) (within site) ▷ λ _. nothing e) (any or_forms) never
+calms-close site e =
+    calms-by-heads (token (as_sign (codes ")")) (within site) ▷ λ _. nothing e) (can (as_sign (codes ")"))) (any or_forms) never
+    (heads-then (token (as_sign (codes ")")) (within site)) _ (can (as_sign (codes ")"))) (heads-token (as_sign (codes ")")) (within site)))
     (apart-first (can (as_sign (codes ")"))) (any (sign (codes ")") ∷ [])) (any or_forms) (looks-sign (codes ")")).under (apart (sign (codes ")") ∷ []) or_forms refl))
 
-close : (entry : Entry) (e : Expr) → Rule (token (as_sign (codes ")")) (within entry) ▷ λ _. nothing e) (read_token (as_sign (codes ")")) (within entry) ▶ λ _. give e) never
-close entry e = next (rule-token (as_sign (codes ")")) (within entry) (some_sign (codes ")")) here refl) (λ _. rule-give e)
+close : (site : Site) (e : Expr)
+    → Rule (token (as_sign (codes ")")) (within site) ▷ λ _. nothing e) (read_token (as_sign (codes ")")) (within site) ▶ λ _. give e) never
+close site e = next (rule-token (as_sign (codes ")")) (within site) (some_sign (codes ")")) here refl) (λ _. rule-give e)
 
 -- a layer, where what stands within is read
-module _ (entry : Entry) (inner : Nest → Language Expr) (inner_by : Nest → Parser Expr) (rules : (nest : Nest) → Rule (inner nest) (inner_by nest) (goes nest)) where
-  minus : (room : ℕ) → Rule (prefixed entry room (as_sign (codes "-")) (inner signed) expr.Neg) (prefixed_by entry room (as_sign (codes "-")) (inner_by signed) expr.Neg) never
+module _ (site : Site) (inner : Nest → Language Expr) (inner_by : Nest → Parser Expr) (rules : (nest : Nest) → Rule (inner nest) (inner_by nest) (goes nest)) where
+  minus : (room : ℕ) → Rule (prefixed site room (as_sign (codes "-")) (inner signed) expr.Neg) (prefixed_by site room (as_sign (codes "-")) (inner_by signed) expr.Neg) never
   unfolding prefixed_by
-  minus room = next (rule-token (as_sign (codes "-")) (opening entry room) (some_sign (codes "-")) here refl)
+  minus room = next (rule-token (as_sign (codes "-")) (opening site room) (some_sign (codes "-")) here refl)
       (λ place. rule-map (inner signed) (inner_by signed) (λ e. expr.Neg e place) never (rules signed))
 
-  nots : (room : ℕ) → Rule (prefixed entry room (as_word (codes "not")) (inner negated) expr.Not) (prefixed_by entry room (as_word (codes "not")) (inner_by negated) expr.Not) (any comparison_forms)
+  nots : (room : ℕ) → Rule (prefixed site room (as_word (codes "not")) (inner negated) expr.Not) (prefixed_by site room (as_word (codes "not")) (inner_by negated) expr.Not) (any comparison_forms)
   unfolding prefixed_by
-  nots room = next (rule-token (as_word (codes "not")) (opening entry room) (some_word (codes "not")) here refl)
+  nots room = next (rule-token (as_word (codes "not")) (opening site room) (some_word (codes "not")) here refl)
       (λ place. rule-map (inner negated) (inner_by negated) (λ e. expr.Not e place) (any comparison_forms) (rules negated))
 
-  rest-of-group : Rule (inner whole ▷ λ e. token (as_sign (codes ")")) (within entry) ▷ λ _. nothing e) (inner_by whole ▶ λ e. read_token (as_sign (codes ")")) (within entry) ▶ λ _. give e) never
-  rest-of-group = before (calms-close entry) (rules whole) (close entry)
+  rest-of-group : Rule (inner whole ▷ λ e. token (as_sign (codes ")")) (within site) ▷ λ _. nothing e) (inner_by whole ▶ λ e. read_token (as_sign (codes ")")) (within site) ▶ λ _. give e) never
+  rest-of-group = before (calms-close site) (rules whole) (close site)
 
-  groups : (room : ℕ) → Rule (group entry inner room) (group_by entry inner_by room) never
+  groups : (room : ℕ) → Rule (group site inner room) (group_by site inner_by room) never
   unfolding group_by
-  groups room = next (rule-token (as_sign (codes "(")) (opening entry room) (some_sign (codes "(")) here refl) (λ _. rest-of-group)
+  groups room = next (rule-token (as_sign (codes "(")) (opening site room) (some_sign (codes "(")) here refl) (λ _. rest-of-group)
 
-  pub rule-layer : (room : ℕ) (nest : Nest) → Rule (layer entry inner room nest) (layer_by entry inner_by room nest) (goes nest)
-  rule-layer room whole = rule-disjunction entry inner inner_by room (minus room) (nots room) (groups room)
-  rule-layer room negated = rule-negation entry inner inner_by room (minus room) (nots room) (groups room)
-  rule-layer room signed = rule-unary entry inner inner_by room (minus room) (nots room) (groups room)
+  pub rule-layer : (room : ℕ) (nest : Nest) → Rule (layer site inner room nest) (layer_by site inner_by room nest) (goes nest)
+  rule-layer room whole = rule-disjunction site inner inner_by room (minus room) (nots room) (groups room)
+  rule-layer room negated = rule-negation site inner inner_by room (minus room) (nots room) (groups room)
+  rule-layer room signed = rule-unary site inner inner_by room (minus room) (nots room) (groups room)
 
 -- a layer where nothing more may open
-module _ (entry : Entry) (inner : Nest → Language Expr) (some : (nest : Nest) (at : ℕ) → Begins (inner nest) at []) where
+module _ (site : Site) (inner : Nest → Language Expr) (some : (nest : Nest) (at : ℕ) → Begins (inner nest) at []) where
   stop : {A B : Type 0} (read : Lexeme → Option A) (M : A → Language B) (q : A → Parser B) (l : Lexeme) (a : A) → read l ≡ Some a → ((b : A) (at : ℕ) → Begins (M b) at [])
-      → (after : Lexeme → Bool) → Rule (token read (opening entry 0) ▷ M) (read_token read (opening entry 0) ▶ q) after
-  stop read M q l a reads ones after = rule-stopped read (opening entry 0) M q (no-room entry) l a reads ones after
+      → (after : Lexeme → Bool) → Rule (token read (opening site 0) ▷ M) (read_token read (opening site 0) ▶ q) after
+  stop read M q l a reads ones after = rule-stopped read (opening site 0) M q (no-room site) l a reads ones after
 
   some-map : (nest : Nest) (h : Expr → Expr) (at : ℕ) → Begins (inner nest ▷ λ e. nothing (h e)) at []
   unfolding ◌▷◌
@@ -121,94 +122,95 @@ module _ (entry : Entry) (inner : Nest → Language Expr) (some : (nest : Nest) 
       let (us, e, k) = some nest at in
       (us ++ [], h e, (e, us, [], refl, k, (refl, refl)))
 
-  some-close : (at : ℕ) → Begins (inner whole ▷ λ e. token (as_sign (codes ")")) (within entry) ▷ λ _. nothing e) at []
+  some-close : (at : ℕ) → Begins (inner whole ▷ λ e. token (as_sign (codes ")")) (within site) ▷ λ _. nothing e) at []
   unfolding ◌▷◌
   some-close at =
       let (us, e, k) = some whole at in
-      let (vs, f, m) = (close entry e).some (at + length us) in
+      let (vs, f, m) = (close site e).some (at + length us) in
       (us ++ vs, f, (e, us, vs, refl, k, m))
 
-  minus-last : Rule (prefixed entry 0 (as_sign (codes "-")) (inner signed) expr.Neg) (prefixed_by entry 0 (as_sign (codes "-")) (refuse signed) expr.Neg) never
+  minus-last : Rule (prefixed site 0 (as_sign (codes "-")) (inner signed) expr.Neg) (prefixed_by site 0 (as_sign (codes "-")) (refuse signed) expr.Neg) never
   unfolding prefixed_by
   minus-last = stop (as_sign (codes "-")) (λ place. inner signed ▷ λ e. nothing (expr.Neg e place)) _ (some_sign (codes "-")) here refl (λ place. some-map signed (λ e. expr.Neg e place)) never
 
-  nots-last : Rule (prefixed entry 0 (as_word (codes "not")) (inner negated) expr.Not) (prefixed_by entry 0 (as_word (codes "not")) (refuse negated) expr.Not) (any comparison_forms)
+  nots-last : Rule (prefixed site 0 (as_word (codes "not")) (inner negated) expr.Not) (prefixed_by site 0 (as_word (codes "not")) (refuse negated) expr.Not) (any comparison_forms)
   unfolding prefixed_by
   nots-last = stop (as_word (codes "not")) (λ place. inner negated ▷ λ e. nothing (expr.Not e place)) _ (some_word (codes "not")) here refl (λ place. some-map negated (λ e. expr.Not e place))
       (any comparison_forms)
 
-  groups-last : Rule (group entry inner 0) (group_by entry refuse 0) never
+  groups-last : Rule (group site inner 0) (group_by site refuse 0) never
   unfolding group_by
-  groups-last = stop (as_sign (codes "(")) (λ _. inner whole ▷ λ e. token (as_sign (codes ")")) (within entry) ▷ λ _. nothing e) _ (some_sign (codes "(")) here refl (λ _. some-close) never
+  groups-last = stop (as_sign (codes "(")) (λ _. inner whole ▷ λ e. token (as_sign (codes ")")) (within site) ▷ λ _. nothing e) _ (some_sign (codes "(")) here refl (λ _. some-close) never
 
-  pub rule-last : (nest : Nest) → Rule (layer entry inner 0 nest) (layer_by entry refuse 0 nest) (goes nest)
-  rule-last whole = rule-disjunction entry inner refuse 0 minus-last nots-last groups-last
-  rule-last negated = rule-negation entry inner refuse 0 minus-last nots-last groups-last
-  rule-last signed = rule-unary entry inner refuse 0 minus-last nots-last groups-last
+  pub rule-last : (nest : Nest) → Rule (layer site inner 0 nest) (layer_by site refuse 0 nest) (goes nest)
+  rule-last whole = rule-disjunction site inner refuse 0 minus-last nots-last groups-last
+  rule-last negated = rule-negation site inner refuse 0 minus-last nots-last groups-last
+  rule-last signed = rule-unary site inner refuse 0 minus-last nots-last groups-last
 
 -- a layer over parts that grow grows
-module _ (entry : Entry) (F : Nest → ℕ → Language Expr) (L : Nest → Language Expr) (rises : (nest : Nest) → Rises (F nest) (L nest)) (room : ℕ) where
-  rises-prefixed : (read : Lexeme → Option Place) (nest : Nest) (make : Expr → Place → Expr) → Rises (λ n. prefixed entry room read (F nest n) make) (prefixed entry room read (L nest) make)
+module _ (site : Site) (F : Nest → ℕ → Language Expr) (L : Nest → Language Expr) (rises : (nest : Nest) → Rises (F nest) (L nest)) (room : ℕ) where
+  rises-prefixed : (read : Lexeme → Option Place) (nest : Nest) (make : Expr → Place → Expr)
+      → Rises (λ n. prefixed site room read (F nest n) make) (prefixed site room read (L nest) make)
   rises-prefixed read nest make =
-      rises-then (λ n. token read (opening entry room)) (token read (opening entry room)) (λ place n. F nest n ▷ λ e. nothing (make e place)) (λ place. L nest ▷ λ e. nothing (make e place))
-      (rises-same (token read (opening entry room)))
+      rises-then (λ n. token read (opening site room)) (token read (opening site room)) (λ place n. F nest n ▷ λ e. nothing (make e place)) (λ place. L nest ▷ λ e. nothing (make e place))
+      (rises-same (token read (opening site room)))
       (λ place. rises-then (F nest) (L nest) (λ e n. nothing (make e place)) (λ e. nothing (make e place)) (rises nest) (λ e. rises-same (nothing (make e place))))
 
-  rises-group : Rises (λ n. group entry (λ k. F k n) room) (group entry L room)
+  rises-group : Rises (λ n. group site (λ k. F k n) room) (group site L room)
   rises-group =
-      rises-then (λ n. token (as_sign (codes "(")) (opening entry room)) (token (as_sign (codes "(")) (opening entry room))
-      (λ place n. F whole n ▷ λ e. token (as_sign (codes ")")) (within entry) ▷ λ _. nothing e) (λ place. L whole ▷ λ e. token (as_sign (codes ")")) (within entry) ▷ λ _. nothing e)
-      (rises-same (token (as_sign (codes "(")) (opening entry room)))
-      (λ place. rises-then (F whole) (L whole) (λ e n. token (as_sign (codes ")")) (within entry) ▷ λ _. nothing e) (λ e. token (as_sign (codes ")")) (within entry) ▷ λ _. nothing e)
-      (rises whole) (λ e. rises-same (token (as_sign (codes ")")) (within entry) ▷ λ _. nothing e)))
+      rises-then (λ n. token (as_sign (codes "(")) (opening site room)) (token (as_sign (codes "(")) (opening site room))
+      (λ place n. F whole n ▷ λ e. token (as_sign (codes ")")) (within site) ▷ λ _. nothing e) (λ place. L whole ▷ λ e. token (as_sign (codes ")")) (within site) ▷ λ _. nothing e)
+      (rises-same (token (as_sign (codes "(")) (opening site room)))
+      (λ place. rises-then (F whole) (L whole) (λ e n. token (as_sign (codes ")")) (within site) ▷ λ _. nothing e) (λ e. token (as_sign (codes ")")) (within site) ▷ λ _. nothing e)
+      (rises whole) (λ e. rises-same (token (as_sign (codes ")")) (within site) ▷ λ _. nothing e)))
 
-  rises-atom : Rises (λ n. atom entry (λ k. F k n) room) (atom entry L room)
+  rises-atom : Rises (λ n. atom site (λ k. F k n) room) (atom site L room)
   rises-atom = rises-alternative _ _ _ _ (rises-same _) (rises-alternative _ _ _ _ (rises-same _) (rises-alternative _ _ _ _ (rises-same _) rises-group))
 
-  rises-unary : Rises (λ n. unary entry (λ k. F k n) room) (unary entry L room)
+  rises-unary : Rises (λ n. unary site (λ k. F k n) room) (unary site L room)
   rises-unary = rises-alternative _ _ _ _ (rises-prefixed (as_sign (codes "-")) signed expr.Neg) rises-atom
 
   module _ (ops : Lexeme → Option Operator) (G : ℕ → Language Expr) (M : Language Expr) (r : Rises G M) where
-    rises-right : (left : Expr) → Rises (λ n. right_of entry ops (G n) left) (right_of entry ops M left)
+    rises-right : (left : Expr) → Rises (λ n. right_of site ops (G n) left) (right_of site ops M left)
     rises-right left =
-        rises-then (λ n. token ops (within entry)) (token ops (within entry)) (λ o n. G n ▷ λ right. nothing (two o left right)) (λ o. M ▷ λ right. nothing (two o left right))
-        (rises-same (token ops (within entry)))
+        rises-then (λ n. token ops (within site)) (token ops (within site)) (λ o n. G n ▷ λ right. nothing (two o left right)) (λ o. M ▷ λ right. nothing (two o left right))
+        (rises-same (token ops (within site)))
         (λ o. rises-then G M (λ right n. nothing (two o left right)) (λ right. nothing (two o left right)) r (λ right. rises-same (nothing (two o left right))))
 
-    rises-chain : Rises (λ n. chain entry ops (G n)) (chain entry ops M)
+    rises-chain : Rises (λ n. chain site ops (G n)) (chain site ops M)
     rises-chain =
-        rises-then G M (λ left n. repeated (right_of entry ops (G n)) left) (repeated (right_of entry ops M)) r
-        (rises-repeated (λ left n. right_of entry ops (G n) left) (right_of entry ops M) rises-right)
+        rises-then G M (λ left n. repeated (right_of site ops (G n)) left) (repeated (right_of site ops M)) r
+        (rises-repeated (λ left n. right_of site ops (G n) left) (right_of site ops M) rises-right)
 
-  rises-product : Rises (λ n. product entry (λ k. F k n) room) (product entry L room)
-  rises-product = rises-chain as_product (λ n. unary entry (λ k. F k n) room) (unary entry L room) rises-unary
+  rises-product : Rises (λ n. product site (λ k. F k n) room) (product site L room)
+  rises-product = rises-chain as_product (λ n. unary site (λ k. F k n) room) (unary site L room) rises-unary
 
-  rises-sum : Rises (λ n. sum entry (λ k. F k n) room) (sum entry L room)
-  rises-sum = rises-chain as_sum (λ n. product entry (λ k. F k n) room) (product entry L room) rises-product
+  rises-sum : Rises (λ n. sum site (λ k. F k n) room) (sum site L room)
+  rises-sum = rises-chain as_sum (λ n. product site (λ k. F k n) room) (product site L room) rises-product
 
-  rises-comparison : Rises (λ n. comparison entry (λ k. F k n) room) (comparison entry L room)
+  rises-comparison : Rises (λ n. comparison site (λ k. F k n) room) (comparison site L room)
   rises-comparison =
-      rises-then (λ n. sum entry (λ k. F k n) room) (sum entry L room) (λ left n. alternative (right_of entry as_relation (sum entry (λ k. F k n) room) left) (nothing left))
-      (λ left. alternative (right_of entry as_relation (sum entry L room) left) (nothing left)) rises-sum
-      (λ left. rises-alternative (λ n. right_of entry as_relation (sum entry (λ k. F k n) room) left) (λ n. nothing left) (right_of entry as_relation (sum entry L room) left) (nothing left)
-      (rises-right as_relation (λ n. sum entry (λ k. F k n) room) (sum entry L room) rises-sum left) (rises-same (nothing left)))
+      rises-then (λ n. sum site (λ k. F k n) room) (sum site L room) (λ left n. alternative (right_of site as_relation (sum site (λ k. F k n) room) left) (nothing left))
+      (λ left. alternative (right_of site as_relation (sum site L room) left) (nothing left)) rises-sum
+      (λ left. rises-alternative (λ n. right_of site as_relation (sum site (λ k. F k n) room) left) (λ n. nothing left) (right_of site as_relation (sum site L room) left) (nothing left)
+      (rises-right as_relation (λ n. sum site (λ k. F k n) room) (sum site L room) rises-sum left) (rises-same (nothing left)))
 
-  rises-negation : Rises (λ n. negation entry (λ k. F k n) room) (negation entry L room)
+  rises-negation : Rises (λ n. negation site (λ k. F k n) room) (negation site L room)
   rises-negation = rises-alternative _ _ _ _ (rises-prefixed (as_word (codes "not")) negated expr.Not) rises-comparison
 
-  rises-conjunction : Rises (λ n. conjunction entry (λ k. F k n) room) (conjunction entry L room)
-  rises-conjunction = rises-chain as_and (λ n. negation entry (λ k. F k n) room) (negation entry L room) rises-negation
+  rises-conjunction : Rises (λ n. conjunction site (λ k. F k n) room) (conjunction site L room)
+  rises-conjunction = rises-chain as_and (λ n. negation site (λ k. F k n) room) (negation site L room) rises-negation
 
-  rises-disjunction : Rises (λ n. disjunction entry (λ k. F k n) room) (disjunction entry L room)
-  rises-disjunction = rises-chain as_or (λ n. conjunction entry (λ k. F k n) room) (conjunction entry L room) rises-conjunction
+  rises-disjunction : Rises (λ n. disjunction site (λ k. F k n) room) (disjunction site L room)
+  rises-disjunction = rises-chain as_or (λ n. conjunction site (λ k. F k n) room) (conjunction site L room) rises-conjunction
 
-  pub rises-layer : (nest : Nest) → Rises (λ n. layer entry (λ k. F k n) room nest) (layer entry L room nest)
+  pub rises-layer : (nest : Nest) → Rises (λ n. layer site (λ k. F k n) room nest) (layer site L room nest)
   rises-layer whole = rises-disjunction
   rises-layer negated = rises-negation
   rises-layer signed = rises-unary
 
 -- one part within another
-module _ (entry : Entry) (K M : Nest → Language Expr) (into : (nest : Nest) (at : ℕ) (steps : List Step) (e : Expr) → K nest at steps e → M nest at steps e) where
+module _ (site : Site) (K M : Nest → Language Expr) (into : (nest : Nest) (at : ℕ) (steps : List Step) (e : Expr) → K nest at steps e → M nest at steps e) where
   step-of : Nest → ℕ → Language Expr
   step-of nest zero = K nest
   step-of nest (suc n) = M nest
@@ -230,47 +232,52 @@ module _ (entry : Entry) (K M : Nest → Language Expr) (into : (nest : Nest) (a
     back nest zero at steps e h = into nest at steps e h
     back nest (suc n) at steps e h = h
 
-  pub layer-within : (room : ℕ) (nest : Nest) (at : ℕ) (steps : List Step) (e : Expr) → layer entry K room nest at steps e → layer entry M room nest at steps e
+  pub layer-within : (room : ℕ) (nest : Nest) (at : ℕ) (steps : List Step) (e : Expr) → layer site K room nest at steps e
+      → layer site M room nest at steps e
   unfolding step-of
-  layer-within room nest at steps e h = (rises-layer entry step-of M both room nest).back 0 at steps e h
+  layer-within room nest at steps e h = (rises-layer site step-of M both room nest).back 0 at steps e h
 
 -- of any depth
-abbrev pub deep : Entry → (room : ℕ) → Nest → Language Expr
-deep entry room nest at steps e = (n : ℕ) × nested n entry room nest at steps e
+abbrev pub deep : Site → (room : ℕ) → Nest → Language Expr
+deep site room nest at steps e = (n : ℕ) × nested n site room nest at steps e
 
-nested-up : (entry : Entry) (n room : ℕ) (nest : Nest) (at : ℕ) (steps : List Step) (e : Expr) → nested n entry room nest at steps e → nested (suc n) entry room nest at steps e
+nested-up : (site : Site) (n room : ℕ) (nest : Nest) (at : ℕ) (steps : List Step) (e : Expr) → nested n site room nest at steps e
+    → nested (suc n) site room nest at steps e
 unfolding nested
-nested-up entry zero room nest at steps e h = absurd h
-nested-up entry (suc n) room nest at steps e h =
-    layer-within entry (nested n entry (room - 1)) (nested (suc n) entry (room - 1)) (λ k at' steps' e' x. nested-up entry n (room - 1) k at' steps' e' x) room nest at steps e h
+nested-up site zero room nest at steps e h = absurd h
+nested-up site (suc n) room nest at steps e h =
+    layer-within site (nested n site (room - 1)) (nested (suc n) site (room - 1)) (λ k at' steps' e' x. nested-up site n (room - 1) k at' steps' e' x) room nest at steps e h
 
-nested-add : (entry : Entry) (n m room : ℕ) (nest : Nest) (at : ℕ) (steps : List Step) (e : Expr) → nested n entry room nest at steps e → nested (n + m) entry room nest at steps e
-nested-add entry n zero room nest at steps e h =
+nested-add : (site : Site) (n m room : ℕ) (nest : Nest) (at : ℕ) (steps : List Step) (e : Expr) → nested n site room nest at steps e
+    → nested (n + m) site room nest at steps e
+nested-add site n zero room nest at steps e h =
     let same : n + 0 ≡ n = omega arith in
     rw same h
-nested-add entry n (suc m) room nest at steps e h =
+nested-add site n (suc m) room nest at steps e h =
     let same : n + suc m ≡ suc (n + m) = omega arith in
-    rw same (nested-up entry (n + m) room nest at steps e (nested-add entry n m room nest at steps e h))
+    rw same (nested-up site (n + m) room nest at steps e (nested-add site n m room nest at steps e h))
 
-rises-deep : (entry : Entry) (room : ℕ) (nest : Nest) → Rises (λ n. nested n entry room nest) (deep entry room nest)
-rises-deep entry room nest = record {
-  up = λ n m at steps e h. nested-add entry n m room nest at steps e h;
+rises-deep : (site : Site) (room : ℕ) (nest : Nest) → Rises (λ n. nested n site room nest) (deep site room nest)
+rises-deep site room nest = record {
+  up = λ n m at steps e h. nested-add site n m room nest at steps e h;
   bound = λ at steps e h. h;
   back = λ n at steps e h. (n, h);
 }
 
 -- a part of any depth is a layer over parts of any depth
-layer-deep : (entry : Entry) (room : ℕ) (nest : Nest) (at : ℕ) (steps : List Step) (e : Expr) → layer entry (deep entry (room - 1)) room nest at steps e → deep entry room nest at steps e
+layer-deep : (site : Site) (room : ℕ) (nest : Nest) (at : ℕ) (steps : List Step) (e : Expr)
+    → layer site (deep site (room - 1)) room nest at steps e → deep site room nest at steps e
 unfolding nested
-layer-deep entry room nest at steps e h =
-    let (n, x) = (rises-layer entry (λ k n. nested n entry (room - 1) k) (deep entry (room - 1)) (rises-deep entry (room - 1)) room nest).bound at steps e h in
+layer-deep site room nest at steps e h =
+    let (n, x) = (rises-layer site (λ k n. nested n site (room - 1) k) (deep site (room - 1)) (rises-deep site (room - 1)) room nest).bound at steps e h in
     (suc n, x)
 
-deep-layer : (entry : Entry) (room : ℕ) (nest : Nest) (at : ℕ) (steps : List Step) (e : Expr) → deep entry room nest at steps e → layer entry (deep entry (room - 1)) room nest at steps e
+deep-layer : (site : Site) (room : ℕ) (nest : Nest) (at : ℕ) (steps : List Step) (e : Expr) → deep site room nest at steps e
+    → layer site (deep site (room - 1)) room nest at steps e
 unfolding nested
-deep-layer entry room nest at steps e (zero, h) = absurd h
-deep-layer entry room nest at steps e (suc n, h) =
-    (rises-layer entry (λ k n. nested n entry (room - 1) k) (deep entry (room - 1)) (rises-deep entry (room - 1)) room nest).back n at steps e h
+deep-layer site room nest at steps e (zero, h) = absurd h
+deep-layer site room nest at steps e (suc n, h) =
+    (rises-layer site (λ k n. nested n site (room - 1) k) (deep site (room - 1)) (rises-deep site (room - 1)) room nest).back n at steps e h
 
 -- the same texts, and parsers that agree
 pub rule-same : {A : Type 0} (K L : Language A) (p q : Parser A) (more : Lexeme → Bool) → ((at : ℕ) (steps : List Step) (a : A) → K at steps a → L at steps a)
@@ -283,92 +290,96 @@ rule-same K L p q more to back same r = record {
 }
 
 -- a number is an expression of each kind
-module _ (entry : Entry) (inner : Nest → Language Expr) (room at : ℕ) where
-  some-unary : Begins (unary entry inner room) at []
-  some-unary = (step some_number_token (within entry at some_number_token) ∷ [], _, inr (inl (some_number_token, refl, refl)))
+module _ (site : Site) (inner : Nest → Language Expr) (room at : ℕ) where
+  some-unary : Begins (unary site inner room) at []
+  some-unary = (step some_number_token (within site at some_number_token) ∷ [], _, inr (inl (some_number_token, refl, refl)))
 
-  some-chain : (ops : Lexeme → Option Operator) (operand : Language Expr) → Begins operand at [] → Begins (chain entry ops operand) at []
+  some-chain : (ops : Lexeme → Option Operator) (operand : Language Expr) → Begins operand at [] → Begins (chain site ops operand) at []
   unfolding ◌▷◌ times
   some-chain ops operand (us, e, h) = (us ++ [], e, (e, us, [], refl, h, (zero, (refl, refl))))
 
-  some-negation : Begins (negation entry inner room) at []
+  some-negation : Begins (negation site inner room) at []
   unfolding ◌▷◌
   some-negation =
-      let (us, e, h) = some-chain as_sum (product entry inner room) (some-chain as_product (unary entry inner room) some-unary) in
+      let (us, e, h) = some-chain as_sum (product site inner room) (some-chain as_product (unary site inner room) some-unary) in
       (us ++ [], e, inr (e, us, [], refl, h, inr (refl, refl)))
 
-  some-layer : (nest : Nest) → Begins (layer entry inner room nest) at []
-  some-layer whole = some-chain as_or (conjunction entry inner room) (some-chain as_and (negation entry inner room) some-negation)
+  some-layer : (nest : Nest) → Begins (layer site inner room nest) at []
+  some-layer whole = some-chain as_or (conjunction site inner room) (some-chain as_and (negation site inner room) some-negation)
   some-layer negated = some-negation
   some-layer signed = some-unary
 
-some-deep : (entry : Entry) (room : ℕ) (nest : Nest) (at : ℕ) → Begins (deep entry room nest) at []
-some-deep entry room nest at =
-    let (us, e, h) = some-layer entry (deep entry (room - 1)) room at nest in
-    (us, e, layer-deep entry room nest at us e h)
+some-deep : (site : Site) (room : ℕ) (nest : Nest) (at : ℕ) → Begins (deep site room nest) at []
+some-deep site room nest at =
+    let (us, e, h) = some-layer site (deep site (room - 1)) room at nest in
+    (us, e, layer-deep site room nest at us e h)
 
-pub rule-deep : (room : ℕ) (entry : Entry) (nest : Nest) → Rule (deep entry room nest) (nested_by room entry nest) (goes nest)
+pub rule-deep : (room : ℕ) (site : Site) (nest : Nest) → Rule (deep site room nest) (nested_by room site nest) (goes nest)
 unfolding nested_by
-rule-deep zero entry nest =
-    rule-same (layer entry (deep entry 0) 0 nest) (deep entry 0 nest) (layer_by entry refuse 0 nest) (nested_by 0 entry nest) (goes nest)
-    (layer-deep entry 0 nest) (deep-layer entry 0 nest) (λ s. refl) (rule-last entry (deep entry 0) (some-deep entry 0) nest)
-rule-deep (suc room) entry nest =
+rule-deep zero site nest =
+    rule-same (layer site (deep site 0) 0 nest) (deep site 0 nest) (layer_by site refuse 0 nest) (nested_by 0 site nest) (goes nest)
+    (layer-deep site 0 nest) (deep-layer site 0 nest) (λ s. refl) (rule-last site (deep site 0) (some-deep site 0) nest)
+rule-deep (suc room) site nest =
     let less : suc room - 1 ≡ room = omega arith in
-    let rules : (k : Nest) → Rule (deep entry (suc room - 1) k) (nested_by room entry k) (goes k) = rw less (λ k. rule-deep room entry k) in
-    rule-same (layer entry (deep entry (suc room - 1)) (suc room) nest) (deep entry (suc room) nest) (layer_by entry (nested_by room entry) (suc room) nest) (nested_by (suc room) entry nest) (goes nest)
-    (layer-deep entry (suc room) nest) (deep-layer entry (suc room) nest) (λ s. refl) (rule-layer entry (deep entry (suc room - 1)) (nested_by room entry) rules (suc room) nest)
+    let rules : (k : Nest) → Rule (deep site (suc room - 1) k) (nested_by room site k) (goes k) = rw less (λ k. rule-deep room site k) in
+    rule-same (layer site (deep site (suc room - 1)) (suc room) nest) (deep site (suc room) nest) (layer_by site (nested_by room site) (suc room) nest) (nested_by (suc room) site nest) (goes nest)
+    (layer-deep site (suc room) nest) (deep-layer site (suc room) nest) (λ s. refl) (rule-layer site (deep site (suc room - 1)) (nested_by room site) rules (suc room) nest)
 
 -- an expression where it stands
-abbrev entry_here : Bool → ℕ → Lexeme → Entry
-entry_here is_beyond at l = record { before = at; start = l.place; is_beyond = is_beyond }
+abbrev site_here : Bool → ℕ → Lexeme → Site
+site_here is_beyond at l = record { before = at; start = l.place; is_beyond = is_beyond }
 
 module _ (is_beyond : Bool) (at : ℕ) (l : Lexeme) where
-  into : (x : Step) (more : List Step) (e : Expr) → x.lexeme ≡ l → deep (entry_here is_beyond at l) 64 whole at (x ∷ more) e → expression is_beyond at (x ∷ more) e
+  into : (x : Step) (more : List Step) (e : Expr) → x.lexeme ≡ l → deep (site_here is_beyond at l) 64 whole at (x ∷ more) e
+      → expression is_beyond at (x ∷ more) e
   into x more e same (n, h) =
       let place : x.lexeme.place ≡ l.place = ap (λ (k : Lexeme). k.place) same in
       (x, more, n, refl, subst (λ (p : Place). nested n (record { before = at; start = p; is_beyond = is_beyond }) 64 whole at (x ∷ more) e) (sym place) h)
 
-  head-of : (steps : List Step) (e : Expr) → deep (entry_here is_beyond at l) 64 whole at steps e → (x : Step) × (more : List Step) × (steps ≡ x ∷ more)
+  head-of : (steps : List Step) (e : Expr) → deep (site_here is_beyond at l) 64 whole at steps e
+      → (x : Step) × (more : List Step) × (steps ≡ x ∷ more)
   head-of steps e h =
-      let (x, more, is, t) = heads-disjunction (entry_here is_beyond at l) (deep (entry_here is_beyond at l) (64 - 1)) 64 at steps e (deep-layer (entry_here is_beyond at l) 64 whole at steps e h) in
+      let (x, more, is, t) =
+      heads-disjunction (site_here is_beyond at l) (deep (site_here is_beyond at l) (64 - 1)) 64 at steps e (deep-layer (site_here is_beyond at l) 64 whole at steps e h) in
       (x, more, is)
 
   -- what is read where it stands is an expression
   from-here : (steps : List Step) (e : Expr) (rest : List Lexeme) (ls : List Lexeme) → l ∷ ls ≡ lexemes steps ++ rest
-      → deep (entry_here is_beyond at l) 64 whole at steps e → expression is_beyond at steps e
+      → deep (site_here is_beyond at l) 64 whole at steps e → expression is_beyond at steps e
   from-here [] e rest ls is h = let (x, more, none) = head-of [] e h in cc none
   from-here (x ∷ more) e rest ls is h = let same : x.lexeme ≡ l = cc is in into x more e same h
 
 some-expression : (is_beyond : Bool) (at : ℕ) → Begins (expression is_beyond) at []
 unfolding some-deep some-layer some-negation some-chain some-unary
 some-expression is_beyond at =
-    let entry : Entry = record { before = at; start = here; is_beyond = is_beyond } in
-    let sample = some-deep entry 64 whole at in
-    (sample.0, sample.1, (step some_number_token (within entry at some_number_token), [], sample.2.0, refl, sample.2.1))
+    let site : Site = record { before = at; start = here; is_beyond = is_beyond } in
+    let sample = some-deep site 64 whole at in
+    (sample.0, sample.1, (step some_number_token (within site at some_number_token), [], sample.2.0, refl, sample.2.1))
 
 module _ (is_beyond : Bool) (at : ℕ) (l : Lexeme) (ls : List Lexeme) where
   -- on tokens that start as these an expression is read as one that stands here
   same-reading : (o : Outcome Expr) (all : List Lexeme) → head all ≡ Some l
-      → nested_by 64 (entry_here is_beyond at l) whole (state at all) ≡ o → expression_by is_beyond (state at all) ≡ o
+      → nested_by 64 (site_here is_beyond at l) whole (state at all) ≡ o → expression_by is_beyond (state at all) ≡ o
   unfolding expression_by
   same-reading o all f e =
-      at-first (λ us. nested_by 64 (entry_here is_beyond at l) whole (state at us) ≡ o → expression_by is_beyond (state at us) ≡ o) l (λ us g. g) all f e
+      at-first (λ us. nested_by 64 (site_here is_beyond at l) whole (state at us) ≡ o → expression_by is_beyond (state at us) ≡ o) l (λ us g. g) all f e
 
   agree : (us left more : List Lexeme) (o : Outcome Expr) → l ∷ ls ≡ us ++ left → head more ≡ head left
-      → nested_by 64 (entry_here is_beyond at l) whole (state at (us ++ more)) ≡ o → expression_by is_beyond (state at (us ++ more)) ≡ o
+      → nested_by 64 (site_here is_beyond at l) whole (state at (us ++ more)) ≡ o → expression_by is_beyond (state at (us ++ more)) ≡ o
   agree us left more o is f e = same-reading o (us ++ more) (head-append us more left f ∙ sym (ap head is)) e
 
   -- a text of an expression that goes on as the tokens here
-  begins-here : (steps : List Step) (rest : List Lexeme) → l ∷ ls ≡ lexemes steps ++ rest → Begins (deep (entry_here is_beyond at l) 64 whole) at steps → Begins (expression is_beyond) at steps
+  begins-here : (steps : List Step) (rest : List Lexeme) → l ∷ ls ≡ lexemes steps ++ rest
+      → Begins (deep (site_here is_beyond at l) 64 whole) at steps → Begins (expression is_beyond) at steps
   begins-here [] rest is h = some-expression is_beyond at
   begins-here (x ∷ us) rest is (more, e, h) = let same : x.lexeme ≡ l = cc is in (more, e, into is_beyond at l x (us ++ more) e same h)
 
   pub expression-faithful : (o : Outcome Expr)
-      → Faithful (deep (entry_here is_beyond at l) 64 whole) (nested_by 64 (entry_here is_beyond at l) whole) (state at (l ∷ ls)) o
+      → Faithful (deep (site_here is_beyond at l) 64 whole) (nested_by 64 (site_here is_beyond at l) whole) (state at (l ∷ ls)) o
       → Faithful (expression is_beyond) (expression_by is_beyond) (state at (l ∷ ls)) o
   expression-faithful (Ok e, left) g = record {
     steps = g.steps;
-    plain = g.plain;
+    no_limit = g.no_limit;
     is = g.is;
     at = g.at;
     means = from-here is_beyond at l g.steps e left.rest ls g.is g.means;
@@ -376,7 +387,7 @@ module _ (is_beyond : Bool) (at : ℕ) (l : Lexeme) (ls : List Lexeme) where
   }
   expression-faithful (Err Syntax, left) g = record {
     steps = g.steps;
-    plain = g.plain;
+    no_limit = g.no_limit;
     is = g.is;
     at = g.at;
     begins = begins-here g.steps left.rest g.is g.begins;
@@ -387,7 +398,7 @@ module _ (is_beyond : Bool) (at : ℕ) (l : Lexeme) (ls : List Lexeme) where
       g.is ∙ ap (λ (us : List Lexeme). lexemes g.steps ++ us) g.here ∙ sym (two-parts g.steps (step g.late (Some pass) ∷ []) g.rest) in
       record {
         steps = g.steps;
-        plain = g.plain;
+        no_limit = g.no_limit;
         late = g.late;
         rest = g.rest;
         here = g.here;
@@ -406,22 +417,22 @@ rule-expression is_beyond =
           → Faithful (expression is_beyond) (expression_by is_beyond) (state at rest) (expression_from is_beyond at rest)
       faithful at [] = record {
         steps = [];
-        plain = tt;
+        no_limit = tt;
         is = refl;
         at = omega arith;
         begins = some-expression is_beyond at;
         again = at-end (λ us. expression_by is_beyond (state at us) ≡ (Err Syntax, state at us)) refl;
       }
       faithful at (l ∷ ls) =
-          expression-faithful is_beyond at l ls (nested_by 64 (entry_here is_beyond at l) whole (state at (l ∷ ls))) ((rule-deep 64 (entry_here is_beyond at l) whole).faithful (state at (l ∷ ls)))
+          expression-faithful is_beyond at l ls (nested_by 64 (site_here is_beyond at l) whole (state at (l ∷ ls))) ((rule-deep 64 (site_here is_beyond at l) whole).faithful (state at (l ∷ ls)))
 
       whole-expression : Whole (expression is_beyond) (expression_by is_beyond) (any or_forms)
       whole-expression at steps e rest (x, more, n, is, h) f =
           let reading : expression_by is_beyond (state at (lexemes steps ++ rest))
-          ≡ nested_by 64 (entry_here is_beyond at x.lexeme) whole (state at (lexemes steps ++ rest)) =
+          ≡ nested_by 64 (site_here is_beyond at x.lexeme) whole (state at (lexemes steps ++ rest)) =
           rw is refl in
-          reading ∙ (rule-deep 64 (entry_here is_beyond at x.lexeme) whole).whole at steps e rest (n, h) f
+          reading ∙ (rule-deep 64 (site_here is_beyond at x.lexeme) whole).whole at steps e rest (n, h) f
 
 pub heads-expression : (is_beyond : Bool) → Heads (expression is_beyond) (any negation_forms)
 heads-expression is_beyond at steps e (x, more, n, is, h) =
-    heads-disjunction (entry_here is_beyond at x.lexeme) (deep (entry_here is_beyond at x.lexeme) (64 - 1)) 64 at steps e (deep-layer (entry_here is_beyond at x.lexeme) 64 whole at steps e (n, h))
+    heads-disjunction (site_here is_beyond at x.lexeme) (deep (site_here is_beyond at x.lexeme) (64 - 1)) 64 at steps e (deep-layer (site_here is_beyond at x.lexeme) 64 whole at steps e (n, h))

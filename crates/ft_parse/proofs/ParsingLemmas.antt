@@ -9,7 +9,7 @@ use Rattle.ft_tree.specs.declared.item.Number.{Number}
 use Rattle.ft_tree.specs.declared.tree.Tree.{Tree}
 use Rattle.ft_tree.specs.meaning.Limits.{IsSet}
 use Rattle.ft_read.specs.meaning.Lexeme.{Lexeme, lexemes_of}
-use Rattle.ft_parse.specs.meaning.Language.{Plain, Step, lexemes}
+use Rattle.ft_parse.specs.meaning.Language.{PassNoLimit, Step, lexemes}
 use Rattle.ft_parse.specs.meaning.Items.{set}
 use Rattle.ft_parse.specs.meaning.Parse.{AreLexemes, IsFault, Reads, ReadsSame, Spells, parts_of}
 use Rattle.ft_parse.specs.parsers.Faults.{IsAhead, IsFaultOf}
@@ -60,14 +60,14 @@ module _ (text : List ℕ) (tokens : List Token) (are : IsTokens text tokens) wh
   pub read-lawful : (parts : Parts) (left : ParserState) → set_by (state 0 ls) ≡ (Ok parts, left)
       → IsSet parts.name parts.period parts.splits parts.depth parts.items
   read-lawful parts left e =
-      let (steps, same, plain, h) = said (Ok parts, left) e in
-      lawful-parts text steps parts (subst (AreLexemes text) (sym same) here) h plain
+      let (steps, same, no_limit, h) = said (Ok parts, left) e in
+      lawful-parts text steps parts (subst (AreLexemes text) (sym same) here) h no_limit
 
   pub read-spelled : (parts : Parts) (left : ParserState) (tree : Tree) → set_by (state 0 ls) ≡ (Ok parts, left) → parts_of tree ≡ parts
       → Spells text tree
   read-spelled parts left tree e is =
-      let (steps, same, plain, h) = said (Ok parts, left) e in
-      record { steps = steps; are = subst (AreLexemes text) (sym same) here; grammar = subst (set 0 steps) (sym is) h; plain = plain }
+      let (steps, same, no_limit, h) = said (Ok parts, left) e in
+      record { steps = steps; are = subst (AreLexemes text) (sym same) here; grammar = subst (set 0 steps) (sym is) h; no_limit = no_limit }
 
   pub ahead : (stop : Stop) (left : ParserState) → Stops stop left (set_by (state 0 ls)) → IsAhead stop left.rest
   ahead Syntax left e = let (bad, rest, is, front, whole, begins, ends) = said (Err Syntax, left) e in subst (IsAhead Syntax) (sym is) tt
@@ -81,21 +81,21 @@ module _ (text : List ℕ) (tokens : List Token) (are : IsTokens text tokens) wh
       let place : f ≡ fault.Syntax bad.place = subst (λ (us : List Lexeme). IsFaultOf Syntax us f) there is in
       subst (IsFault text) (sym place) (record { front = front; bad = bad; rest = rest; are = subst (AreLexemes text) whole here; at = refl; begins = begins; ends = ends })
   read-fault (Limit pass) left f e is =
-      let (late, rest, front, whole, plain, begins, always) = said (Err (Limit pass), left) e in
+      let (late, rest, front, whole, no_limit, begins, always) = said (Err (Limit pass), left) e in
       subst (IsFault text) (sym is)
-      (record { front = lexemes front; late = late; rest = rest; are = subst (AreLexemes text) whole here; before = front; plain = plain; same = refl; begins = begins; always = always })
+      (record { front = lexemes front; late = late; rest = rest; are = subst (AreLexemes text) whole here; before = front; no_limit = no_limit; same = refl; begins = begins; always = always })
   read-fault NoMemory left f e is = subst (IsFault text) (sym is) tt
 
   module _ (sole : (others : List Token) → IsTokens text others → others ≡ tokens) where
     -- parts that the text spells within the limits are what is read
-    parts-whole : (steps : List Step) (parts : Parts) → AreLexemes text (lexemes steps) → set 0 steps parts → Plain steps
+    parts-whole : (steps : List Step) (parts : Parts) → AreLexemes text (lexemes steps) → set 0 steps parts → PassNoLimit steps
         → (at : ℕ) × (set_by (state 0 ls) ≡ (Ok parts, state at []))
-    parts-whole steps parts (others, others_are, same) grammar plain =
+    parts-whole steps parts (others, others_are, same) grammar no_limit =
         let lexed : lexemes steps ≡ ls = sym same ∙ ap (lexemes_of text) (sole others others_are) in
-        subst (λ (us : List Lexeme). (at : ℕ) × (set_by (state 0 us) ≡ (Ok parts, state at []))) lexed (only steps parts grammar plain)
+        subst (λ (us : List Lexeme). (at : ℕ) × (set_by (state 0 us) ≡ (Ok parts, state at []))) lexed (only steps parts grammar no_limit)
 
     read-whole : (tree : Tree) → Spells text tree → (at : ℕ) × (set_by (state 0 ls) ≡ (Ok (parts_of tree), state at []))
-    read-whole tree s = parts-whole s.steps (parts_of tree) s.are s.grammar s.plain
+    read-whole tree s = parts-whole s.steps (parts_of tree) s.are s.grammar s.no_limit
 
     pub read-only : (parts : Parts) (left : ParserState) (read tree : Tree) → set_by (state 0 ls) ≡ (Ok parts, left)
         → parts_of read ≡ parts → Spells text tree → read ≡ tree
@@ -131,8 +131,8 @@ module _ (text : List ℕ) (tokens : List Token) (are : IsTokens text tokens) wh
         → parts_of read ≡ parts → text ≡ canonical tree
         → IsSameTree read tree
     read-same law parts left read tree e is canonical_is =
-        let (steps, written, are_lexemes, grammar, plain, same) = round-trip law tree in
-        let (at, whole) = parts-whole steps written (subst (λ (t : List ℕ). AreLexemes t (lexemes steps)) (sym canonical_is) are_lexemes) grammar plain in
+        let (steps, written, are_lexemes, grammar, no_limit, same) = round-trip law tree in
+        let (at, whole) = parts-whole steps written (subst (λ (t : List ℕ). AreLexemes t (lexemes steps)) (sym canonical_is) are_lexemes) grammar no_limit in
         let answers = ap (λ (o : Outcome Parts). o.0) (sym e ∙ whole) in
         let parts_same : parts ≡ written = cc answers in
         ap bare_parts (is ∙ parts_same) ∙ same
@@ -141,8 +141,8 @@ module _ (text : List ℕ) (tokens : List Token) (are : IsTokens text tokens) wh
     no-stop : CanonicalTokens → (stop : Stop) (left : ParserState) (tree : Tree) → set_by (state 0 ls) ≡ (Err stop, left)
         → text ≡ canonical tree → ⊥
     no-stop law stop left tree e canonical_is =
-        let (steps, written, are_lexemes, grammar, plain, same) = round-trip law tree in
-        let (at, whole) = parts-whole steps written (subst (λ (t : List ℕ). AreLexemes t (lexemes steps)) (sym canonical_is) are_lexemes) grammar plain in
+        let (steps, written, are_lexemes, grammar, no_limit, same) = round-trip law tree in
+        let (at, whole) = parts-whole steps written (subst (λ (t : List ℕ). AreLexemes t (lexemes steps)) (sym canonical_is) are_lexemes) grammar no_limit in
         let answers = ap (λ (o : Outcome Parts). o.0) (sym e ∙ whole) in
         cc answers
 

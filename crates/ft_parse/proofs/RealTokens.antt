@@ -16,7 +16,7 @@ use Rattle.ft_tree.specs.meaning.Limits.{is_number}
 use Rattle.ft_base.specs.Digits.{decimal_value}
 use Rattle.ft_read.specs.meaning.Lexeme.{Lexeme, as_name, as_number, lexemes_of, or_else}
 use Rattle.ft_read.specs.meaning.Limit.{Passes, is_great_number, is_long_name, is_name_kind, is_number_kind, lexical_pass, where_so}
-use Rattle.ft_parse.specs.meaning.Language.{Plain, Step, lexemes}
+use Rattle.ft_parse.specs.meaning.Language.{PassNoLimit, Step, lexemes}
 use Rattle.ft_parse.specs.meaning.Parse.{AreLexemes}
 use Rattle.ft_read.specs.declared.stop.LimitWord.{LimitWord}
 use Rattle.ft_read.specs.declared.stop.Pass.{Pass}
@@ -88,12 +88,12 @@ abbrev pub AllGood : List Step → Type 0
 AllGood [] = Unit {0}
 AllGood (s ∷ more) = IsReal s.lexeme × (s.pass ≡ None) × AllGood more
 
-of-plain : (steps : List Step) → AllReal (lexemes steps) → Plain steps → AllGood steps
-of-plain [] real plain = tt
-of-plain (s ∷ more) (r, real) (p, plain) = (r, p, of-plain more real plain)
+of-no_limit : (steps : List Step) → AllReal (lexemes steps) → PassNoLimit steps → AllGood steps
+of-no_limit [] real no_limit = tt
+of-no_limit (s ∷ more) (r, real) (p, no_limit) = (r, p, of-no_limit more real no_limit)
 
-pub good-steps : (text : List ℕ) (steps : List Step) → AreLexemes text (lexemes steps) → Plain steps → AllGood steps
-good-steps text steps are plain = of-plain steps (rw (← are.2) (real-tokens text 0 are.0 are.1)) plain
+pub good-steps : (text : List ℕ) (steps : List Step) → AreLexemes text (lexemes steps) → PassNoLimit steps → AllGood steps
+good-steps text steps are no_limit = of-no_limit steps (rw (← are.2) (real-tokens text 0 are.0 are.1)) no_limit
 
 pub good-parts : (us vs : List Step) → AllGood (us ++ vs) → AllGood us × AllGood vs
 good-parts [] vs h = (tt, h)
@@ -129,14 +129,14 @@ lexical-number l lexical e =
     kept (is_number_kind l.kind) (is_number (decimal_value l.text)) (so-none (is_great_number l) _ _ great) e
 
 -- what is read of a token that passes no such limit
-pub record Reads {A : Type 0} (passes : Passes) (read : Lexeme → Option A) (P : A → Type 0) : Type 0 where
+pub record ReadsLawful {A : Type 0} (passes : Passes) (read : Lexeme → Option A) (P : A → Type 0) : Type 0 where
   pub gives : (at : ℕ) (l : Lexeme) (a : A) → IsReal l → passes at l ≡ None → read l ≡ Some a → P a
 
 -- a token that passes none of these limits passes none of those of names and numbers
 pub record IncludesLexical (passes : Passes) : Type 0 where
   pub lexical : (at : ℕ) (l : Lexeme) → passes at l ≡ None → lexical_pass l ≡ None
 
-pub reads-any : {A : Type 0} {passes : Passes} (read : Lexeme → Option A) → Reads passes read (λ a. Unit {0})
+pub reads-any : {A : Type 0} {passes : Passes} (read : Lexeme → Option A) → ReadsLawful passes read (λ a. Unit {0})
 reads-any {A} {passes} read = record { gives = λ at l a real p e. tt }
 
 name-kind : (k : TokenKind) (text : List ℕ) (place : Place) (w : Word)
@@ -162,7 +162,7 @@ number-kind kind.Sign text place n e = cc e
 number-kind kind.End text place n e = cc e
 number-kind kind.Bad text place n e = cc e
 
-pub reads-name : {passes : Passes} → IncludesLexical passes → Reads passes as_name (λ w. is_name w.text ≡ true)
+pub reads-name : {passes : Passes} → IncludesLexical passes → ReadsLawful passes as_name (λ w. is_name w.text ≡ true)
 reads-name {passes} includes =
     record {
       gives = λ at l w real p e.
@@ -170,7 +170,7 @@ reads-name {passes} includes =
           rw same (lexical-name l real (includes.lexical at l p) named);
     }
 
-pub reads-number : {passes : Passes} → IncludesLexical passes → Reads passes as_number (λ n. is_number n.value ≡ true)
+pub reads-number : {passes : Passes} → IncludesLexical passes → ReadsLawful passes as_number (λ n. is_number n.value ≡ true)
 reads-number {passes} includes =
     record {
       gives = λ at l n real p e.
@@ -178,8 +178,8 @@ reads-number {passes} includes =
           rw same (lexical-number l (includes.lexical at l p) named);
     }
 
-pub reads-or : {A : Type 0} {passes : Passes} {f g : Lexeme → Option A} {P : A → Type 0} → Reads passes f P → Reads passes g P
-    → Reads passes (λ l. or_else (f l) (g l)) P
+pub reads-or : {A : Type 0} {passes : Passes} {f g : Lexeme → Option A} {P : A → Type 0} → ReadsLawful passes f P → ReadsLawful passes g P
+    → ReadsLawful passes (λ l. or_else (f l) (g l)) P
 reads-or {A} {passes} {f} {g} {P} one other = record { gives = λ at l a real p e. by-value at l a real p (f l) refl e } where
   by-value : (at : ℕ) (l : Lexeme) (a : A) → IsReal l → passes at l ≡ None → (o : Option A) → f l ≡ o → or_else o (g l) ≡ Some a
       → P a
@@ -187,8 +187,8 @@ reads-or {A} {passes} {f} {g} {P} one other = record { gives = λ at l a real p 
   by-value at l a real p None same e = other.gives at l a real p e
 
 pub reads-map : {A B : Type 0} {passes : Passes} {f : Lexeme → Option A} {P : A → Type 0} {Q : B → Type 0} (h : A → B)
-    → Reads passes f P → ((a : A) → P a → Q (h a))
-    → Reads passes (λ l. elim (f l) [ None ↦ None | Some a ↦ Some (h a) ]) Q
+    → ReadsLawful passes f P → ((a : A) → P a → Q (h a))
+    → ReadsLawful passes (λ l. elim (f l) [ None ↦ None | Some a ↦ Some (h a) ]) Q
 reads-map {A} {B} {passes} {f} {P} {Q} h one then = record { gives = λ at l b real p e. by-value at l b real p (f l) refl e } where
   by-value : (at : ℕ) (l : Lexeme) (b : B) → IsReal l → passes at l ≡ None → (o : Option A) → f l ≡ o
       → elim o [ None ↦ None | Some a ↦ Some (h a) ] ≡ Some b → Q b

@@ -21,7 +21,7 @@ use Rattle.ft_tree.specs.meaning.Line.{Line}
 use Rattle.ft_tree.specs.meaning.Lines.{item_lines, one_line, option_lines, period_pieces, set_lines, set_pieces}
 use Rattle.ft_tree.specs.laws.Tokens.{CanonicalTokens, Shape, kind_of}
 use Rattle.ft_read.specs.meaning.Lexeme.{Lexeme, lexeme_of, lexemes_of}
-use Rattle.ft_parse.specs.meaning.Language.{Plain, Step, lexemes, nothing, repeated, ◌▷◌}
+use Rattle.ft_parse.specs.meaning.Language.{PassNoLimit, Step, lexemes, nothing, repeated, ◌▷◌}
 use Rattle.ft_parse.specs.meaning.Room.{is_full}
 use Rattle.ft_parse.specs.meaning.Items
 use Rattle.ft_parse.specs.meaning.Items.{set}
@@ -179,11 +179,11 @@ set-written name period splits depth items h =
 
 -- by the law of canonical tokens
 pub round-trip : CanonicalTokens → (tree : Tree) → (steps : List Step) × (parts : Parts)
-    × AreLexemes (canonical tree) (lexemes steps) × set 0 steps parts × Plain steps × (bare_parts parts ≡ bare_parts (parts_of tree))
+    × AreLexemes (canonical tree) (lexemes steps) × set 0 steps parts × PassNoLimit steps × (bare_parts parts ≡ bare_parts (parts_of tree))
 unfolding line_shapes end-shape
 round-trip law tree =
     let (tokens, are, same_shapes) = law tree in
     let ls : List Lexeme = lexemes_of (canonical tree) tokens in
     let written = set-written tree.name tree.period tree.splits tree.depth tree.items tree.lawful in
     let spelt = written.all ls (map-map shape (lexeme_of (canonical tree)) tokens ∙ same_shapes) in
-    (spelt.steps, spelt.value, (tokens, are, sym spelt.same), spelt.means, spelt.plain, spelt.good)
+    (spelt.steps, spelt.value, (tokens, are, sym spelt.same), spelt.means, spelt.no_limit, spelt.good)

@@ -59,7 +59,8 @@ module _ {A : Type 0} (test : Lexeme → Bool) (part : ℕ → Parser A) (shorte
   several-less before after s left e f = less test (one_more part before) (more-shortens before) s.at s.rest after left e f
 
 pub rows_is : (s : ParserState)
-    → several_by (can (as_word (codes "row"))) row_by s ≡ bind (many (can (as_word (codes "row"))) (one_more row_by)) (one_more row_by [] s)
+    → several_by (can (as_word (codes "row"))) row_by s
+    ≡ bind (many (can (as_word (codes "row"))) (one_more row_by)) (one_more row_by [] s)
 rows_is = several-is (can (as_word (codes "row"))) row_by row-shortens
 
 pub rows_turn : (before : List Row) (s : ParserState) → begins (can (as_word (codes "row"))) s.rest ≡ true
@@ -79,7 +80,8 @@ rows_less = several-less (can (as_word (codes "row"))) row_by row-shortens
 pub ruleset rows = (rows_is, rows_turn, rows_end)
 
 pub vrows_is : (s : ParserState)
-    → several_by (can (as_word (codes "row"))) vrow_by s ≡ bind (many (can (as_word (codes "row"))) (one_more vrow_by)) (one_more vrow_by [] s)
+    → several_by (can (as_word (codes "row"))) vrow_by s
+    ≡ bind (many (can (as_word (codes "row"))) (one_more vrow_by)) (one_more vrow_by [] s)
 vrows_is = several-is (can (as_word (codes "row"))) vrow_by vrow-shortens
 
 pub vrows_turn : (before : List VRow) (s : ParserState) → begins (can (as_word (codes "row"))) s.rest ≡ true

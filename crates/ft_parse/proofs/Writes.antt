@@ -7,9 +7,9 @@ use Rattle.ft_base.specs.declared.place.Place.{Place}
 use Rattle.ft_tree.specs.meaning.Line.{Piece}
 use Rattle.ft_tree.specs.laws.Tokens.{Shape, piece_shape}
 use Rattle.ft_read.specs.meaning.Lexeme.{Lexeme}
-use Rattle.ft_parse.specs.meaning.Language.{Language, Plain, Step, alternative, lexemes, nothing, repeated, step, times, token, ◌▷◌}
+use Rattle.ft_parse.specs.meaning.Language.{Language, PassNoLimit, Step, alternative, lexemes, nothing, repeated, step, times, token, ◌▷◌}
 use Rattle.ft_read.specs.meaning.Limit.{Passes}
-use Rattle.ft_parse.proofs.Faithful.{plain-append}
+use Rattle.ft_parse.proofs.Faithful.{no_limit-append}
 
 -- a lexeme without its place
 abbrev pub shape : Lexeme → Shape
@@ -27,7 +27,7 @@ pub record Spelt {A : Type 0} (L : Language A) (at : ℕ) (ls : List Lexeme) (Go
   pub steps : List Step
   pub value : A
   pub same : lexemes steps ≡ ls
-  pub plain : Plain steps
+  pub no_limit : PassNoLimit steps
   pub means : L at steps value
   pub good : Good value
 
@@ -73,7 +73,7 @@ and_then {A} {B} {L} {M} {at} {xs} {ys} {G} {H} first second = record { all = go
         steps = one.steps ++ other.steps;
         value = other.value;
         same = map-append (λ (s : Step). s.lexeme) one.steps other.steps ∙ (λ i. one.same i ++ other.same i) ∙ sym is;
-        plain = plain-append one.steps other.steps one.plain other.plain;
+        no_limit = no_limit-append one.steps other.steps one.no_limit other.no_limit;
         means = (
           one.value,
           one.steps,
@@ -101,7 +101,7 @@ one {A} {read} {passes} {at} {G} s each = record { all = go } where
         steps = step l (passes at l) ∷ [];
         value = a;
         same = refl;
-        plain = (subst (λ (k : Lexeme). passes at k ≡ None) same passed, tt);
+        no_limit = (subst (λ (k : Lexeme). passes at k ≡ None) same passed, tt);
         means = (l, refl, subst (λ (k : Lexeme). read k ≡ Some a) same reads);
         good = good;
       }
@@ -116,7 +116,7 @@ next first second = and_then first second
 pub none : {A : Type 0} {a : A} {at : ℕ} {G : A → Type 0} → G a → Writes (nothing a) at [] G
 none {A} {a} {at} {G} good = record { all = go } where
   go : (ls : List Lexeme) → map shape ls ≡ [] → Spelt (nothing a) at ls G
-  go [] e = record { steps = []; value = a; same = refl; plain = tt; means = (refl, refl); good = good }
+  go [] e = record { steps = []; value = a; same = refl; no_limit = tt; means = (refl, refl); good = good }
   go (l ∷ ls) e = absurd (cc e)
 
 -- what is made of a part's value
@@ -138,7 +138,7 @@ wider {A} {L} {M} {at} {ss} {G} h w = record { all = go } where
     steps = s.steps;
     value = s.value;
     same = s.same;
-    plain = s.plain;
+    no_limit = s.no_limit;
     means = h.up at s.steps s.value s.means;
     good = s.good;
   }
@@ -152,7 +152,7 @@ weaker {A} {L} {at} {ss} {G} {H} f w = record { all = go } where
     steps = s.steps;
     value = s.value;
     same = s.same;
-    plain = s.plain;
+    no_limit = s.no_limit;
     means = s.means;
     good = f s.value s.good;
   }

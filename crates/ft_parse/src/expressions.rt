@@ -11,7 +11,7 @@ ghost use Rattle.ft_parse.specs.parsers.Expressions.{atom_by, comparison_by, exp
 
 use ft_base::{Boxed, NoMemory, Place, Text};
 use ft_read::{
-    Cursor, Entry, Limits, Precedence, Stop, is_operator, is_simple, join, read_operator,
+    Cursor, Limits, Precedence, Site, Stop, is_operator, is_simple, join, read_operator,
     read_simple,
 };
 use ft_tree::Expr;
@@ -42,85 +42,85 @@ fn history(
     alloc: Global,
     cursor: &mut Cursor,
     word: &[u8],
-    entry: Entry,
+    site: Site,
     room: u32,
 ) -> Result<(Text, Place), Stop>
     ensures { (make : List ℕ → Place → Expr)
-        → Gives (λ read. make read.0 read.1) result cursor.new (history_by entry room word.now make cursor.old) }
+        → Gives (λ read. make read.0 read.1) result cursor.new (history_by site room word.now make cursor.old) }
 {
-    let place = cursor.word(word, Limits::Within(entry))?;
-    cursor.open_sign(b"(", entry, room)?;
-    let name = cursor.name(alloc, Limits::Within(entry))?;
-    cursor.sign(b")", Limits::Within(entry))?;
+    let place = cursor.word(word, Limits::Within(site))?;
+    cursor.open_sign(b"(", site, room)?;
+    let name = cursor.name(alloc, Limits::Within(site))?;
+    cursor.sign(b")", Limits::Within(site))?;
     Ok((name.text, place))
 }
 
 /// An expression in parentheses.
 #[cycle(expression)]
 #[tactic(auto, using(crate::proofs::PrecedenceLemmas::inner), unfolding(crate::specs::parsers::Expressions::group_by))]
-fn group(alloc: Global, cursor: &mut Cursor, entry: Entry, room: u32) -> Result<Expr, Stop>
-    ensures { Gives (λ e. e) result cursor.new (group_by entry (inner_by room entry) room cursor.old) }
+fn group(alloc: Global, cursor: &mut Cursor, site: Site, room: u32) -> Result<Expr, Stop>
+    ensures { Gives (λ e. e) result cursor.new (group_by site (inner_by room site) room cursor.old) }
 {
-    let (_, inside) = cursor.open_sign(b"(", entry, room)?;
-    let e = chain(alloc, cursor, Precedence::Disjunction, entry, inside)?;
-    cursor.sign(b")", Limits::Within(entry))?;
+    let (_, inside) = cursor.open_sign(b"(", site, room)?;
+    let e = chain(alloc, cursor, Precedence::Disjunction, site, inside)?;
+    cursor.sign(b")", Limits::Within(site))?;
     Ok(e)
 }
 
 /// A number, a name, a truth, a value of the past, or an expression in parentheses.
 #[cycle(expression)]
 #[tactic(auto, unfolding(crate::specs::parsers::Expressions::atom_by))]
-fn atom(alloc: Global, cursor: &mut Cursor, entry: Entry, room: u32) -> Result<Expr, Stop>
-    ensures { Gives (λ e. e) result cursor.new (atom_by entry (inner_by room entry) room cursor.old) }
+fn atom(alloc: Global, cursor: &mut Cursor, site: Site, room: u32) -> Result<Expr, Stop>
+    ensures { Gives (λ e. e) result cursor.new (atom_by site (inner_by room site) room cursor.old) }
 {
     if is_simple(cursor) {
-        return read_simple(alloc, cursor, entry);
+        return read_simple(alloc, cursor, site);
     }
     if cursor.is_word(b"prev") {
-        let (name, place) = history(alloc, cursor, b"prev", entry, room)?;
+        let (name, place) = history(alloc, cursor, b"prev", site, room)?;
         return Ok(Expr::Prev { name, place });
     }
     if cursor.is_word(b"age") {
-        let (name, place) = history(alloc, cursor, b"age", entry, room)?;
+        let (name, place) = history(alloc, cursor, b"age", site, room)?;
         return Ok(Expr::Age { name, place });
     }
-    group(alloc, cursor, entry, room)
+    group(alloc, cursor, site, room)
 }
 
 /// A `-` and its operand.
 #[cycle(expression)]
 #[tactic(auto, using(crate::proofs::PrecedenceLemmas::inner), unfolding(crate::specs::parsers::Expressions::prefixed_by))]
-fn negative(alloc: Global, cursor: &mut Cursor, entry: Entry, room: u32) -> Result<Expr, Stop>
+fn negative(alloc: Global, cursor: &mut Cursor, site: Site, room: u32) -> Result<Expr, Stop>
     ensures { Gives (λ e. e) result cursor.new
-        (prefixed_by entry room (as_sign (codes "-")) (inner_by room entry signed) expr.Neg cursor.old) }
+        (prefixed_by site room (as_sign (codes "-")) (inner_by room site signed) expr.Neg cursor.old) }
 {
-    let (place, inside) = cursor.open_sign(b"-", entry, room)?;
-    let of = unary(alloc, cursor, entry, inside)?;
+    let (place, inside) = cursor.open_sign(b"-", site, room)?;
+    let of = unary(alloc, cursor, site, inside)?;
     Ok(minus(alloc, of, place)?)
 }
 
 /// An operand, with a `-` before it or not.
 #[cycle(expression)]
 #[tactic(auto, unfolding(crate::specs::parsers::Expressions::unary_by))]
-fn unary(alloc: Global, cursor: &mut Cursor, entry: Entry, room: u32) -> Result<Expr, Stop>
-    ensures { Gives (λ e. e) result cursor.new (unary_by entry (inner_by room entry) room cursor.old) }
+fn unary(alloc: Global, cursor: &mut Cursor, site: Site, room: u32) -> Result<Expr, Stop>
+    ensures { Gives (λ e. e) result cursor.new (unary_by site (inner_by room site) room cursor.old) }
 {
     if cursor.is_sign(b"-") {
-        negative(alloc, cursor, entry, room)
+        negative(alloc, cursor, site, room)
     } else {
-        atom(alloc, cursor, entry, room)
+        atom(alloc, cursor, site, room)
     }
 }
 
 /// Two sums with an operator that compares between them, or one sum.
 #[cycle(expression)]
 #[tactic(auto, unfolding(crate::specs::parsers::Expressions::comparison_by))]
-fn comparison(alloc: Global, cursor: &mut Cursor, entry: Entry, room: u32) -> Result<Expr, Stop>
-    ensures { Gives (λ e. e) result cursor.new (comparison_by entry (inner_by room entry) room cursor.old) }
+fn comparison(alloc: Global, cursor: &mut Cursor, site: Site, room: u32) -> Result<Expr, Stop>
+    ensures { Gives (λ e. e) result cursor.new (comparison_by site (inner_by room site) room cursor.old) }
 {
-    let left = operand(alloc, cursor, Precedence::Comparison, entry, room)?;
+    let left = operand(alloc, cursor, Precedence::Comparison, site, room)?;
     if is_operator(cursor, Precedence::Comparison) {
-        right(alloc, cursor, Precedence::Comparison, entry, room, left)
+        right(alloc, cursor, Precedence::Comparison, site, room, left)
     } else {
         Ok(left)
     }
@@ -129,25 +129,25 @@ fn comparison(alloc: Global, cursor: &mut Cursor, entry: Entry, room: u32) -> Re
 /// A `not` and its operand.
 #[cycle(expression)]
 #[tactic(auto, using(crate::proofs::PrecedenceLemmas::inner), unfolding(crate::specs::parsers::Expressions::prefixed_by))]
-fn opposite(alloc: Global, cursor: &mut Cursor, entry: Entry, room: u32) -> Result<Expr, Stop>
+fn opposite(alloc: Global, cursor: &mut Cursor, site: Site, room: u32) -> Result<Expr, Stop>
     ensures { Gives (λ e. e) result cursor.new
-        (prefixed_by entry room (as_word (codes "not")) (inner_by room entry negated) expr.Not cursor.old) }
+        (prefixed_by site room (as_word (codes "not")) (inner_by room site negated) expr.Not cursor.old) }
 {
-    let (place, inside) = cursor.open_word(b"not", entry, room)?;
-    let of = negation(alloc, cursor, entry, inside)?;
+    let (place, inside) = cursor.open_word(b"not", site, room)?;
+    let of = negation(alloc, cursor, site, inside)?;
     Ok(not(alloc, of, place)?)
 }
 
 /// A comparison, with a `not` before it or not.
 #[cycle(expression)]
 #[tactic(auto, unfolding(crate::specs::parsers::Expressions::negation_by))]
-fn negation(alloc: Global, cursor: &mut Cursor, entry: Entry, room: u32) -> Result<Expr, Stop>
-    ensures { Gives (λ e. e) result cursor.new (negation_by entry (inner_by room entry) room cursor.old) }
+fn negation(alloc: Global, cursor: &mut Cursor, site: Site, room: u32) -> Result<Expr, Stop>
+    ensures { Gives (λ e. e) result cursor.new (negation_by site (inner_by room site) room cursor.old) }
 {
     if cursor.is_word(b"not") {
-        opposite(alloc, cursor, entry, room)
+        opposite(alloc, cursor, site, room)
     } else {
-        comparison(alloc, cursor, entry, room)
+        comparison(alloc, cursor, site, room)
     }
 }
 
@@ -158,17 +158,17 @@ fn operand(
     alloc: Global,
     cursor: &mut Cursor,
     precedence: Precedence,
-    entry: Entry,
+    site: Site,
     room: u32,
 ) -> Result<Expr, Stop>
-    ensures { Gives (λ e. e) result cursor.new (operand_by precedence entry (inner_by room entry) room cursor.old) }
+    ensures { Gives (λ e. e) result cursor.new (operand_by precedence site (inner_by room site) room cursor.old) }
 {
     match precedence {
-        Precedence::Disjunction => chain(alloc, cursor, Precedence::Conjunction, entry, room),
-        Precedence::Conjunction => negation(alloc, cursor, entry, room),
-        Precedence::Comparison => chain(alloc, cursor, Precedence::Sum, entry, room),
-        Precedence::Sum => chain(alloc, cursor, Precedence::Product, entry, room),
-        Precedence::Product => unary(alloc, cursor, entry, room),
+        Precedence::Disjunction => chain(alloc, cursor, Precedence::Conjunction, site, room),
+        Precedence::Conjunction => negation(alloc, cursor, site, room),
+        Precedence::Comparison => chain(alloc, cursor, Precedence::Sum, site, room),
+        Precedence::Sum => chain(alloc, cursor, Precedence::Product, site, room),
+        Precedence::Product => unary(alloc, cursor, site, room),
     }
 }
 
@@ -179,15 +179,15 @@ fn right(
     alloc: Global,
     cursor: &mut Cursor,
     precedence: Precedence,
-    entry: Entry,
+    site: Site,
     room: u32,
     left: Expr,
 ) -> Result<Expr, Stop>
     ensures { Gives (λ e. e) result cursor.new
-        (right_by entry (ops_of precedence) (operand_by precedence entry (inner_by room entry) room) left cursor.old) }
+        (right_by site (ops_of precedence) (operand_by precedence site (inner_by room site) room) left cursor.old) }
 {
-    let operator = read_operator(cursor, precedence, entry)?;
-    let right = operand(alloc, cursor, precedence, entry, room)?;
+    let operator = read_operator(cursor, precedence, site)?;
+    let right = operand(alloc, cursor, precedence, site, room)?;
     Ok(join(alloc, operator, left, right)?)
 }
 
@@ -198,14 +198,14 @@ fn chain(
     alloc: Global,
     cursor: &mut Cursor,
     precedence: Precedence,
-    entry: Entry,
+    site: Site,
     room: u32,
 ) -> Result<Expr, Stop>
-    ensures { Gives (λ e. e) result cursor.new (precedence_by precedence entry room cursor.old) }
+    ensures { Gives (λ e. e) result cursor.new (precedence_by precedence site room cursor.old) }
 {
-    let mut left = operand(alloc, cursor, precedence, entry, room)?;
+    let mut left = operand(alloc, cursor, precedence, site, room)?;
     while is_operator(cursor, precedence) {
-        left = right(alloc, cursor, precedence, entry, room, left)?;
+        left = right(alloc, cursor, precedence, site, room, left)?;
     }
     Ok(left)
 }
@@ -216,10 +216,10 @@ pub fn expression(alloc: Global, cursor: &mut Cursor, is_beyond: bool) -> Result
     ensures { Gives (λ e. e) result cursor.new (expression_by is_beyond cursor.old) }
 {
     let first = cursor.first().ok_or(Stop::Syntax)?;
-    let entry = Entry {
+    let site = Site {
         before: cursor.at(),
         start: first.place,
         is_beyond,
     };
-    chain(alloc, cursor, Precedence::Disjunction, entry, MOST_OPEN)
+    chain(alloc, cursor, Precedence::Disjunction, site, MOST_OPEN)
 }

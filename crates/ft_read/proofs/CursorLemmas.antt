@@ -4,7 +4,7 @@ use Rattle.ft_read.specs.meaning.Lexeme.{Lexeme, or_else}
 use Rattle.ft_read.specs.meaning.Limit.{Passes, lexical_passes, opening, lexical_pass, within}
 use Rattle.ft_read.specs.parsers.Cursor.{ReadsAs, ReadsFirst, advanced, head, read_first}
 use Rattle.ft_read.specs.parsers.Combinators.{Outcome, ParserState, begins, can, is_some, read_token, state, token_as, token_of}
-use Rattle.ft_read.specs.declared.parts.Entry.{Entry}
+use Rattle.ft_read.specs.declared.parts.Site.{Site}
 use Rattle.ft_read.specs.declared.stop.LimitWord.TheVariants as limit
 use Rattle.ft_read.specs.declared.stop.Pass.{Pass}
 use Rattle.ft_read.specs.declared.stop.Stop.{Stop}
@@ -66,9 +66,10 @@ pub lexical_read : {A : Type 0} (read : Lexeme → Option A) (found : Option A) 
     → token_of (λ _. found) lexical_passes at rest ≡ token_of read lexical_passes at rest
 lexical_read read = same-first read lexical_passes (λ at l p e. e)
 
-pub within_read : {A : Type 0} (read : Lexeme → Option A) (entry : Entry) (found : Option A) (at : ℕ) (rest : List Lexeme) → ReadsFirst read rest found
-    → token_of (λ _. found) (within entry) at rest ≡ token_of read (within entry) at rest
-within_read read entry = same-first read (within entry) (λ at l p e. rw e refl)
+pub within_read : {A : Type 0} (read : Lexeme → Option A) (site : Site) (found : Option A) (at : ℕ) (rest : List Lexeme)
+    → ReadsFirst read rest found
+    → token_of (λ _. found) (within site) at rest ≡ token_of read (within site) at rest
+within_read read site = same-first read (within site) (λ at l p e. rw e refl)
 
 pub ruleset numbers = (lexical_read, within_read)
 
@@ -86,14 +87,14 @@ opened-first None one l at rest a left e = stopped _ _ left a e
 opened-first (Some b) None l at rest a left e = stopped _ _ left a e
 opened-first (Some b) (Some p) l at rest a left e = stopped _ _ left a e
 
-opened-of : {A : Type 0} (read : Lexeme → Option A) (entry : Entry) (room : ℕ) (at : ℕ) (rest : List Lexeme) (a : A) (left : ParserState)
-    → token_of read (opening entry room) at rest ≡ (Ok a, left) → 0 < room
-opened-of read entry (suc room) at rest a left e = omega arith
-opened-of read entry zero at [] a left e = absurd (stopped _ _ left a e)
-opened-of read entry zero at (l ∷ rest) a left e = absurd (opened-first (read l) (within entry at l) l at rest a left e)
+opened-of : {A : Type 0} (read : Lexeme → Option A) (site : Site) (room : ℕ) (at : ℕ) (rest : List Lexeme) (a : A) (left : ParserState)
+    → token_of read (opening site room) at rest ≡ (Ok a, left) → 0 < room
+opened-of read site (suc room) at rest a left e = omega arith
+opened-of read site zero at [] a left e = absurd (stopped _ _ left a e)
+opened-of read site zero at (l ∷ rest) a left e = absurd (opened-first (read l) (within site at l) l at rest a left e)
 
-pub opened : {A : Type 0} (read : Lexeme → Option A) (entry : Entry) (room : ℕ) (s : ParserState) (a : A) (left : ParserState)
-    → read_token read (opening entry room) s ≡ (Ok a, left) → 0 < room
-opened read entry room s = opened-of read entry room s.at s.rest
+pub opened : {A : Type 0} (read : Lexeme → Option A) (site : Site) (room : ℕ) (s : ParserState) (a : A) (left : ParserState)
+    → read_token read (opening site room) s ≡ (Ok a, left) → 0 < room
+opened read site room s = opened-of read site room s.at s.rest
 
 pub ruleset opens = (opened)

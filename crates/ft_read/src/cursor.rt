@@ -8,7 +8,7 @@ ghost use Rattle.ft_read.specs.parsers.Combinators.{Gives, begins, can, read_tok
 
 use crate::lexeme::Lexeme;
 use crate::limits::Limits;
-use crate::parts::Entry;
+use crate::parts::Site;
 use crate::stop::Stop;
 use ft_base::{NoMemory, Place};
 use ft_lex::Token;
@@ -219,21 +219,21 @@ impl<'t> Cursor<'t> {
 
     /// Goes past a reserved word after which no more than the room may open, and gives the room that is left.
     #[tactic(auto, using(crate::proofs::CursorLemmas::opens))]
-    pub fn open_word(&mut self, word: &[u8], entry: Entry, room: u32) -> Result<(Place, u32), Stop>
-        ensures read { Gives (λ opened. opened.0) result self.new (read_token (as_word word.now) (opening entry room) self.old) }
+    pub fn open_word(&mut self, word: &[u8], site: Site, room: u32) -> Result<(Place, u32), Stop>
+        ensures read { Gives (λ opened. opened.0) result self.new (read_token (as_word word.now) (opening site room) self.old) }
         ensures left { IfOk result (λ opened. room ≡ suc opened.1) }
     {
-        let place = self.word(word, Limits::Opening { entry, room })?;
+        let place = self.word(word, Limits::Opening { site, room })?;
         Ok((place, room - 1))
     }
 
     /// Goes past a sign after which no more than the room may open, and gives the room that is left.
     #[tactic(auto, using(crate::proofs::CursorLemmas::opens))]
-    pub fn open_sign(&mut self, sign: &[u8], entry: Entry, room: u32) -> Result<(Place, u32), Stop>
-        ensures read { Gives (λ opened. opened.0) result self.new (read_token (as_sign sign.now) (opening entry room) self.old) }
+    pub fn open_sign(&mut self, sign: &[u8], site: Site, room: u32) -> Result<(Place, u32), Stop>
+        ensures read { Gives (λ opened. opened.0) result self.new (read_token (as_sign sign.now) (opening site room) self.old) }
         ensures left { IfOk result (λ opened. room ≡ suc opened.1) }
     {
-        let place = self.sign(sign, Limits::Opening { entry, room })?;
+        let place = self.sign(sign, Limits::Opening { site, room })?;
         Ok((place, room - 1))
     }
 }

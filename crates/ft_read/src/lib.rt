@@ -21,7 +21,7 @@ pub use cursor::Cursor;
 pub use lexeme::Lexeme;
 pub use limits::Limits;
 pub use operators::{Precedence, is_operator, join, read_operator};
-pub use parts::{Entry, Operator, SectionAt};
+pub use parts::{Operator, SectionAt, Site};
 pub use simple::{is_simple, read_simple};
 pub use stop::{LimitWord, Pass, Stop};
 pub use words::{counted_name, name, number, sign, word};

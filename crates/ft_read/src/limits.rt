@@ -4,7 +4,7 @@ ghost use Rattle.ft_read.specs.meaning.Limit.{is_extra, is_late, opening, where_
 ghost use Rattle.ft_read.specs.meaning.Lexeme.{or_else};
 
 use crate::lexeme::Lexeme;
-use crate::parts::Entry;
+use crate::parts::Site;
 use crate::stop::{LimitWord, Pass};
 use ft_base::Place;
 
@@ -27,10 +27,10 @@ pub enum Limits {
         place: Place,
     },
     /// Those of a token of an expression.
-    Within(Entry),
+    Within(Site),
     /// Those of a `(`, a `not` or a `-` before an operand, where so many more may open.
     Opening {
-        entry: Entry,
+        site: Site,
         room: u32,
     },
 }
@@ -46,15 +46,15 @@ fn where_so(is_so: bool, which: LimitWord, place: Place) -> Option<Pass>
 const MOST_TOKENS: usize = 1000;
 
 /// The limit that a token of an expression passes, by the number of tokens before it.
-fn within(entry: Entry, at: usize, lexeme: &Lexeme) -> Option<Pass>
-    ensures { result ≡ within entry at lexeme.now }
+fn within(site: Site, at: usize, lexeme: &Lexeme) -> Option<Pass>
+    ensures { result ≡ within site at lexeme.now }
 {
-    let is_extra = entry.is_beyond && at == entry.before;
-    let is_late = at.saturating_sub(entry.before) >= MOST_TOKENS;
+    let is_extra = site.is_beyond && at == site.before;
+    let is_late = at.saturating_sub(site.before) >= MOST_TOKENS;
     lexeme
         .lexical_pass()
         .or(where_so(is_extra, LimitWord::Columns, lexeme.place))
-        .or(where_so(is_late, LimitWord::Expression, entry.start))
+        .or(where_so(is_late, LimitWord::Expression, site.start))
 }
 
 impl Limits {
@@ -75,9 +75,9 @@ impl Limits {
                 which,
                 place,
             } => lexeme.lexical_pass().or(where_so(is_full, which, place)),
-            Limits::Within(entry) => within(entry, at, lexeme),
-            Limits::Opening { entry, room } => {
-                within(entry, at, lexeme).or(where_so(room == 0, LimitWord::Nesting, lexeme.place))
+            Limits::Within(site) => within(site, at, lexeme),
+            Limits::Opening { site, room } => {
+                within(site, at, lexeme).or(where_so(room == 0, LimitWord::Nesting, lexeme.place))
             }
         }
     }

@@ -9,7 +9,7 @@ ghost use Rattle.ft_read.specs.parsers.Tokens.{ops_of};
 use crate::cursor::Cursor;
 use crate::lexeme::Lexeme;
 use crate::limits::Limits;
-use crate::parts::{Entry, Operator};
+use crate::parts::{Operator, Site};
 use crate::stop::Stop;
 use ft_base::{Boxed, NoMemory, Place};
 use ft_tree::{Expr, Op};
@@ -73,12 +73,12 @@ fn first_operator(precedence: Precedence, cursor: &Cursor) -> Option<Operator>
 pub fn read_operator(
     cursor: &mut Cursor,
     precedence: Precedence,
-    entry: Entry,
+    site: Site,
 ) -> Result<Operator, Stop>
-    ensures { Gives (λ operator. operator) result cursor.new (read_token (ops_of precedence) (within entry) cursor.old) }
+    ensures { Gives (λ operator. operator) result cursor.new (read_token (ops_of precedence) (within site) cursor.old) }
 {
     let read = first_operator(precedence, cursor);
-    cursor.accept(read, Limits::Within(entry))
+    cursor.accept(read, Limits::Within(site))
 }
 
 /// Whether an operator of this precedence is next.

@@ -3,7 +3,7 @@ use ft_tree::{Op, SectionWord};
 
 /// Where an expression stands.
 #[derive(Clone, Copy, Drop)]
-pub struct Entry {
+pub struct Site {
     /// How many tokens stand before it.
     pub before: usize,
     /// The place of its first token.

@@ -9,7 +9,7 @@ ghost use Rattle.ft_read.specs.parsers.Tokens.{as_truth_of};
 use crate::cursor::Cursor;
 use crate::lexeme::Lexeme;
 use crate::limits::Limits;
-use crate::parts::Entry;
+use crate::parts::Site;
 use crate::stop::Stop;
 use ft_base::NoMemory;
 use ft_lex::TokenKind;
@@ -62,11 +62,11 @@ fn first_simple(alloc: Global, cursor: &Cursor) -> Result<Option<Expr>, NoMemory
 
 /// Goes past a number, a name, `true` or `false`.
 #[tactic(auto, using(crate::proofs::CursorLemmas::numbers))]
-pub fn read_simple(alloc: Global, cursor: &mut Cursor, entry: Entry) -> Result<Expr, Stop>
-    ensures { Gives (λ e. e) result cursor.new (read_token as_simple (within entry) cursor.old) }
+pub fn read_simple(alloc: Global, cursor: &mut Cursor, site: Site) -> Result<Expr, Stop>
+    ensures { Gives (λ e. e) result cursor.new (read_token as_simple (within site) cursor.old) }
 {
     let read = first_simple(alloc, cursor)?;
-    cursor.accept(read, Limits::Within(entry))
+    cursor.accept(read, Limits::Within(site))
 }
 
 /// Whether a token is such.

@@ -17,9 +17,9 @@ abbrev pub lexemes : List Step → List Lexeme
 lexemes steps = map (λ s. s.lexeme) steps
 
 -- no limit is passed
-abbrev pub Plain : List Step → Type 0
-Plain [] = Unit {0}
-Plain (s ∷ more) = (s.pass ≡ None) × Plain more
+abbrev pub PassNoLimit : List Step → Type 0
+PassNoLimit [] = Unit {0}
+PassNoLimit (s ∷ more) = (s.pass ≡ None) × PassNoLimit more
 
 -- which steps spell which value, where so many tokens stand before them
 abbrev pub Language : Type 0 → Type 1

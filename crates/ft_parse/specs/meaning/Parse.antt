@@ -7,7 +7,7 @@ use Rattle.ft_tree.specs.declared.tree.Tree.{Tree}
 use Rattle.ft_tree.specs.meaning.Bare.{IsSameTree}
 use Rattle.ft_read.specs.meaning.Lexeme.{Lexeme, lexemes_of}
 use Rattle.ft_read.specs.declared.stop.Pass.{Pass}
-use Rattle.ft_parse.specs.meaning.Language.{Plain, Step, lexemes, step}
+use Rattle.ft_parse.specs.meaning.Language.{PassNoLimit, Step, lexemes, step}
 use Rattle.ft_parse.specs.meaning.Items.{set}
 use Rattle.ft_parse.specs.declared.parts.Parts.{Parts}
 use Rattle.ft_parse.specs.declared.fault.ParseFault.{ParseFault}
@@ -25,11 +25,11 @@ pub record Spells (text : List ℕ) (tree : Tree) : Type 0 where
   pub steps : List Step
   pub are : AreLexemes text (lexemes steps)
   pub grammar : set 0 steps (parts_of tree)
-  pub plain : Plain steps
+  pub no_limit : PassNoLimit steps
 
 -- some set's text goes on so, and these first tokens of it pass no limit
 abbrev pub GoesOn : List Lexeme → Type 0
-GoesOn front = (before after : List Step) × (parts : Parts) × (lexemes before ≡ front) × Plain before × set 0 (before ++ after) parts
+GoesOn front = (before after : List Step) × (parts : Parts) × (lexemes before ≡ front) × PassNoLimit before × set 0 (before ++ after) parts
 
 -- The tokens before the place begin some set's text and pass no limit, and with the token at the place they begin none.
 pub record IsSyntaxFault (text : List ℕ) (place : Place) : Type 0 where
@@ -49,11 +49,11 @@ pub record IsLimitFault (text : List ℕ) (pass : Pass) : Type 0 where
   pub rest : List Lexeme
   pub are : AreLexemes text (front ++ late ∷ rest)
   pub before : List Step
-  pub plain : Plain before
+  pub no_limit : PassNoLimit before
   pub same : lexemes before ≡ front
   pub begins : (after : List Step) × (parts : Parts) × set 0 (before ++ step late (Some pass) ∷ after) parts
   pub always : (steps : List Step) (others : List Lexeme) (parts : Parts) → lexemes steps ≡ front ++ late ∷ others → set 0 steps parts
-      → (b a : List Step) × Plain b × (lexemes b ≡ front) × (steps ≡ b ++ step late (Some pass) ∷ a)
+      → (b a : List Step) × PassNoLimit b × (lexemes b ≡ front) × (steps ≡ b ++ step late (Some pass) ∷ a)
 
 -- why a text isn't read; want of memory is free
 abbrev pub IsFault : List ℕ → ParseFault → Type 0

@@ -5,7 +5,7 @@ use Rattle.ft_base.specs.Digits.{decimal_value}
 use Rattle.ft_lex.specs.declared.token.TokenKind.{TokenKind}
 use Rattle.ft_lex.specs.declared.token.TokenKind.TheVariants as kind
 use Rattle.ft_read.specs.meaning.Lexeme.{Lexeme, or_else}
-use Rattle.ft_read.specs.declared.parts.Entry.{Entry}
+use Rattle.ft_read.specs.declared.parts.Site.{Site}
 use Rattle.ft_read.specs.declared.stop.LimitWord.{LimitWord}
 use Rattle.ft_read.specs.declared.stop.Pass.{Pass}
 use Rattle.ft_read.specs.declared.stop.LimitWord.TheVariants as limit
@@ -66,19 +66,19 @@ abbrev pub counted_at : Bool → LimitWord → Place → Passes
 counted_at is_full which place at lexeme = or_else (lexical_pass lexeme) (where_so is_full which place)
 
 -- the first token of an entry too many
-abbrev pub is_extra : Entry → ℕ → Bool
-is_extra entry at = entry.is_beyond && nat_eq at entry.before
+abbrev pub is_extra : Site → ℕ → Bool
+is_extra site at = site.is_beyond && nat_eq at site.before
 
 -- a token after the first 1,000 of an expression
-abbrev pub is_late : Entry → ℕ → Bool
-is_late entry at = nat_le (entry.before + 1000) at
+abbrev pub is_late : Site → ℕ → Bool
+is_late site at = nat_le (site.before + 1000) at
 
 -- a token of an expression
-abbrev pub within : Entry → Passes
-within entry at lexeme =
+abbrev pub within : Site → Passes
+within site at lexeme =
     or_else (lexical_pass lexeme)
-    (or_else (where_so (is_extra entry at) limit.Columns lexeme.place) (where_so (is_late entry at) limit.Expression entry.start))
+    (or_else (where_so (is_extra site at) limit.Columns lexeme.place) (where_so (is_late site at) limit.Expression site.start))
 
 -- a `(`, a `not` or a `-` before an operand, where so many more may open
-abbrev pub opening : Entry → (room : ℕ) → Passes
-opening entry room at lexeme = or_else (within entry at lexeme) (where_so (nat_eq room 0) limit.Nesting lexeme.place)
+abbrev pub opening : Site → (room : ℕ) → Passes
+opening site room at lexeme = or_else (within site at lexeme) (where_so (nat_eq room 0) limit.Nesting lexeme.place)

@@ -12,8 +12,8 @@ passes_of limits.Free = no_pass
 passes_of limits.Lexical = lexical_passes
 passes_of (limits.Counted is_full which) = counted is_full which
 passes_of (limits.CountedAt is_full which place) = counted_at is_full which place
-passes_of (limits.Within entry) = within entry
-passes_of (limits.Opening entry room) = opening entry room
+passes_of (limits.Within site) = within site
+passes_of (limits.Opening site room) = opening site room
 
 -- the first one
 abbrev pub head : List Lexeme → Option Lexeme
