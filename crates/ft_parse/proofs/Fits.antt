@@ -4,16 +4,15 @@ use native.Mathlib.Omega.{arith}
 use Rattle.std.proofs.lemmas.Bool.Decides.{nat_tests}
 use Rattle.ft_base.specs.declared.place.Place.{Place}
 use Rattle.ft_tree.specs.declared.expr.Op.{Op}
-use Rattle.ft_tree.specs.declared.expr.Expr.{Expr, Expr-F, map-Expr, roll-Expr, fold-roll-Expr}
+use Rattle.ft_tree.specs.declared.expr.Expr.{Expr, fold-roll-Expr}
 use Rattle.ft_tree.specs.declared.expr.Expr.TheOpen as layer
-use Rattle.ft_tree.specs.declared.expr.Expr.TheVariants.{Num, Name, Truth, Prev, Age, Not, Neg, Two, rolls-Num, rolls-Name, rolls-Truth}
-use Rattle.ft_tree.specs.declared.expr.Expr.TheVariants.{rolls-Prev, rolls-Age, rolls-Not, rolls-Neg, rolls-Two}
+use Rattle.ft_tree.specs.declared.expr.Expr.TheVariants.{Num, Name, Truth, Prev, Age, Not, Neg, Two, rolls-Truth}
 use Rattle.ft_tree.specs.declared.level.Level.{Level}
 use Rattle.ft_tree.specs.declared.level.Level.TheVariants.{Disjunction, Negation, Unary, Atom}
 use Rattle.ft_tree.specs.meaning.Expression.{Spelled, operand, spelled, spells}
 use Rattle.ft_tree.specs.meaning.Level.{is_looser, left_level, op_level, op_sign, rank, right_level}
 use Rattle.ft_base.specs.Names.{is_name}
-use Rattle.ft_tree.specs.meaning.Limits.{Nested, is_expr, is_lawful, is_number, lawful_layer, nested, nested_layer, nests, operand_depth}
+use Rattle.ft_tree.specs.meaning.Limits.{Nested, is_expr, is_lawful, is_number, lawful_layer, nested, nests, operand_depth}
 use Rattle.ft_tree.specs.meaning.Line.{Piece, token}
 use Rattle.ft_tree.specs.laws.ExprParts.{lawful-Age, lawful-Name, lawful-Neg, lawful-Not, lawful-Num, lawful-Prev, lawful-Two, spelled-Age}
 use Rattle.ft_tree.specs.laws.ExprParts.{spelled-Name, spelled-Neg, spelled-Not, spelled-Num, spelled-Prev, spelled-Truth, spelled-Two}

@@ -27,9 +27,8 @@ pub data Nest : Type 0 where
 -- `prev` or `age`: its word, "(" name ")"
 abbrev pub history : Site → (room : ℕ) → List ℕ → (List ℕ → Place → Expr) → Language Expr
 history site room word make =
-    token (as_word word) (within site) ▷ λ place. token (as_sign (codes "(")) (opening site room) ▷ λ _. token as_name
-    (within site) ▷ λ name.
-    token (as_sign (codes ")")) (within site) ▷ λ _. nothing (make name.text place)
+    token (as_word word) (within site) ▷ λ place. token (as_sign (codes "(")) (opening site room) ▷ λ _.
+    token as_name (within site) ▷ λ name. token (as_sign (codes ")")) (within site) ▷ λ _. nothing (make name.text place)
 
 -- "(" expr ")"
 abbrev pub group : Site → (Nest → Language Expr) → (room : ℕ) → Language Expr

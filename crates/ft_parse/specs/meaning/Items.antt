@@ -18,7 +18,6 @@ use Rattle.ft_tree.specs.declared.item.Kind.TheVariants as kind
 use Rattle.ft_tree.specs.declared.item.Item.TheVariants as item
 use Rattle.ft_tree.specs.declared.item.VarWord.TheVariants as var
 use Rattle.ft_tree.specs.declared.item.SectionWord.TheVariants as section
-use Rattle.ft_tree.specs.declared.item.NatWord.TheVariants as moment
 use Rattle.ft_tree.specs.declared.item.FactItem.TheVariants as fact
 use Rattle.ft_read.specs.meaning.Lexeme.{as_end, as_name, as_number, as_sign, as_word}
 use Rattle.ft_read.specs.meaning.Limit.{no_pass, lexical_passes, counted, counted_at}
@@ -197,8 +196,8 @@ range_type w = bound ▷ λ lo. upper ▷ λ hi. nothing (item.RangeType w lo hi
 
 abbrev pub type_item : List Item → Language Item
 type_item before =
-    word (codes "type") ▷ λ _. declared types limit.Types before ▷ λ w. sign (codes "=") ▷ λ _. alternative (members w)
-    (range_type w) ▷ λ made.
+    word (codes "type") ▷ λ _. declared types limit.Types before ▷ λ w. sign (codes "=") ▷ λ _.
+    alternative (members w) (range_type w) ▷ λ made.
     sign (codes ";") ▷ λ _. nothing made
 
 -- a clause on the environment: "nat" ( "first" | "always" | "step" ) expr ";"

@@ -21,14 +21,13 @@ chain_by site ops operand = operand ▶ many (can ops) (right_by site ops operan
 
 unfoldable pub history_by : Site → (room : ℕ) → List ℕ → (List ℕ → Place → Expr) → Parser Expr
 history_by site room word make =
-    read_token (as_word word) (within site) ▶ λ place. read_token (as_sign (codes "(")) (opening site room) ▶ λ _. read_token as_name
-    (within site) ▶ λ name.
-    read_token (as_sign (codes ")")) (within site) ▶ λ _. give (make name.text place)
+    read_token (as_word word) (within site) ▶ λ place. read_token (as_sign (codes "(")) (opening site room) ▶ λ _.
+    read_token as_name (within site) ▶ λ name. read_token (as_sign (codes ")")) (within site) ▶ λ _. give (make name.text place)
 
 unfoldable pub group_by : Site → (Nest → Parser Expr) → (room : ℕ) → Parser Expr
 group_by site inner room =
-    read_token (as_sign (codes "(")) (opening site room) ▶ λ _. inner whole ▶ λ e. read_token (as_sign (codes ")"))
-    (within site) ▶ λ _. give e
+    read_token (as_sign (codes "(")) (opening site room) ▶ λ _. inner whole ▶ λ e.
+    read_token (as_sign (codes ")")) (within site) ▶ λ _. give e
 
 unfoldable pub atom_by : Site → (Nest → Parser Expr) → (room : ℕ) → Parser Expr
 atom_by site inner room =

@@ -130,8 +130,8 @@ range_type_by w = bound_by ▶ λ lo. upper_by ▶ λ hi. give (item.RangeType w
 
 unfoldable pub type_item_by : List Item → Parser Item
 type_item_by before =
-    word_by (codes "type") ▶ λ _. declared_by types limit.Types before ▶ λ w. sign_by (codes "=") ▶ λ _. alternative_by
-    (can (as_sign (codes "{"))) (members_by w) (range_type_by w) ▶ λ made.
+    word_by (codes "type") ▶ λ _. declared_by types limit.Types before ▶ λ w. sign_by (codes "=") ▶ λ _.
+    alternative_by (can (as_sign (codes "{"))) (members_by w) (range_type_by w) ▶ λ made.
     sign_by (codes ";") ▶ λ _. give made
 
 unfoldable pub clause_by : List Item → Parser Item

@@ -1,5 +1,5 @@
 -- What tokens are read as in expressions: operators, and expressions of one token.
-use Rattle.std.specs.Prelude.{◌-◌, true, false, codes, Option, Some, None}
+use Rattle.std.specs.Prelude.{true, false, codes, Option, Some, None}
 use Rattle.ft_base.specs.declared.place.Place.{Place}
 use Rattle.ft_tree.specs.declared.expr.Op.{Op}
 use Rattle.ft_tree.specs.declared.expr.Op.TheVariants.{Or, And, Eq, Ne, Lt, Le, Gt, Ge, Add, Sub, Mul, Div}
