@@ -60,14 +60,17 @@ all-counted kinds vars n e = ap (place_of kinds vars) e ∙ whole kinds vars
     whole ks [] = refl
     whole ks (v ∷ vs) = ap (λ n. cond (ks zero v) (suc n) n) (whole (after_first ks) vs)
 
-pub item-there : (vars items : List Var) (i : ℕ) (v : Var) → items ≡ vars → i < length items → v ≡ get_or items i v → slice_get vars i ≡ Some v
-item-there vars items i v same less is = subst (λ (xs : List Var). slice_get xs i ≡ Some v) same (slice_get_read items (length items) i v refl less is)
+pub item-there : (vars items : List Var) (i : ℕ) (v : Var) → items ≡ vars → i < length items → v ≡ get_or items i v
+    → slice_get vars i ≡ Some v
+item-there vars items i v same less is = subst (λ (xs : List Var). slice_get xs i ≡ Some v) same
+    (slice_get_read items (length items) i v refl less is)
 
 -- outputs are of the design, and controlled variables of the requirement
 pub output-of-design : (x : ℕ) (v : Var) → IsTrue (outputs x v) → IsTrue (side_kinds side.Sof x v)
 output-of-design x v is = by v.kind is
   where
-    by : (k : VarKind) → IsTrue (same_kind kind.Output k) → IsTrue (same_kind kind.Input k || (same_kind kind.Output k || same_kind kind.SofInner k))
+    by : (k : VarKind) → IsTrue (same_kind kind.Output k)
+        → IsTrue (same_kind kind.Input k || (same_kind kind.Output k || same_kind kind.SofInner k))
     by kind.Output e = refl
     by kind.Mon e = absurd (true≢false (sym e))
     by kind.Con e = absurd (true≢false (sym e))
@@ -78,7 +81,8 @@ output-of-design x v is = by v.kind is
 pub controlled-of-requirement : (x : ℕ) (v : Var) → IsTrue (controlled x v) → IsTrue (side_kinds side.Req x v)
 controlled-of-requirement x v is = by v.kind is
   where
-    by : (k : VarKind) → IsTrue (same_kind kind.Con k) → IsTrue (same_kind kind.Mon k || (same_kind kind.Con k || same_kind kind.ReqInner k))
+    by : (k : VarKind) → IsTrue (same_kind kind.Con k)
+        → IsTrue (same_kind kind.Mon k || (same_kind kind.Con k || same_kind kind.ReqInner k))
     by kind.Con e = refl
     by kind.Mon e = absurd (true≢false (sym e))
     by kind.Output e = absurd (true≢false (sym e))
@@ -88,7 +92,8 @@ controlled-of-requirement x v is = by v.kind is
 
 -- a variable of a kind has its place among them
 pub own-place : (S : Tables) (k : VarKind) (x : ℕ) (v : Var) → IsVar S (of_kind k) x v → v.place ≡ place_of (of_kind k) S.vars x
-own-place S k x v is = S.sound.places x v is.0 ∙ ap (λ (kinds : Kinds). place_of kinds S.vars x) (ap of_kind (sym (kinds-same k v.kind is.1)))
+own-place S k x v is = S.sound.places x v is.0
+    ∙ ap (λ (kinds : Kinds). place_of kinds S.vars x) (ap of_kind (sym (kinds-same k v.kind is.1)))
   where
     kinds-same : (a b : VarKind) → IsTrue (same_kind a b) → a ≡ b
     kinds-same kind.Mon kind.Mon e = refl

@@ -23,7 +23,10 @@ module _ (L : Laws) (S : Tables) (proper : AllProper S) (h r i s : Scans) (o : O
   -- a list with a scan runs so
   runs : (k : ℕ) → k < length h → Runs S h r i s run.controlled_list
   runs k less = record {
-    allowed = record { monitored_list = record { nonempty = λ none. omega (arith, less, ap length none); values = run.required.is_given }; clauses = run.clauses };
+    allowed = record {
+      monitored_list = record { nonempty = λ none. omega (arith, less, ap length none); values = run.required.is_given };
+      clauses = run.clauses;
+    };
     required = only-one (Fits S side.Req h) (L.one_trace S proper side.Req h run.required.is_given) r run.required;
     inputs = only-one (InputMap S h) ((L.one_image S proper).0 h run.required.is_given) i run.input_map;
     design = only-one (Fits S side.Sof i) (L.one_trace S proper side.Sof i run.design.is_given) s run.design;
@@ -48,7 +51,8 @@ module _ (L : Laws) (S : Tables) (proper : AllProper S) (h r i s : Scans) (o : O
   none-found : IsFirst S r run.controlled_list (length h) None → (k : ℕ) → FirstDiffers S h k → ⊥
   none-found same k d =
       let lists = one-run S h r i s run.controlled_list d.r d.i d.s d.c (runs k d.in_list) d.runs in
-      d.differs (subst (λ (x : Scans). SameAt S x d.c k) (sym lists.0) (subst (λ (x : Scans). SameAt S r x k) (sym lists.1) (same k d.in_list)) d.variable d.declared d.is_controlled)
+      d.differs (subst (λ (x : Scans). SameAt S x d.c k) (sym lists.0)
+      (subst (λ (x : Scans). SameAt S r x k) (sym lists.1) (same k d.in_list)) d.variable d.declared d.is_controlled)
 
   pub first-is : IfSome o (FirstDiffers S h)
   first-is = by o run.is_first

@@ -25,7 +25,8 @@ one-run S h r i s c q j t d mine other =
 not-before : (S : Tables) (h : Scans) (j k : ℕ) → j < k → FirstDiffers S h j → FirstDiffers S h k → ⊥
 not-before S h j k less a b =
     let same = one-run S h b.r b.i b.s b.c a.r a.i a.s a.c b.runs a.runs in
-    a.differs (subst (λ (x : Scans). SameAt S x a.c j) (sym same.0) (subst (λ (x : Scans). SameAt S b.r x j) (sym same.1) (b.same_before j less)) a.variable a.declared a.is_controlled)
+    a.differs (subst (λ (x : Scans). SameAt S x a.c j) (sym same.0)
+    (subst (λ (x : Scans). SameAt S b.r x j) (sym same.1) (b.same_before j less)) a.variable a.declared a.is_controlled)
 
 pub one-first : OneFirstDifference
 one-first S h j k a b = ⊎_elim

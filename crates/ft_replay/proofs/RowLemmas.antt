@@ -58,7 +58,8 @@ module _ (L : Laws) (S : Tables) (n : ℕ) (v : Var) (there : slice_get S.vars n
       let among = L.inside S outputs n v (there, out) in
       (omega (arith, inside, wide, is.place), omega (arith, among, room, own-place S kind.Output n v (there, out)))
 
-  pub controlled-places : (required row : List ℤ) (at : ℕ) → IsPlace S side.Req n at → length required ≡ count_of (side_kinds side.Req) S.vars
+  pub controlled-places : (required row : List ℤ) (at : ℕ) → IsPlace S side.Req n at
+      → length required ≡ count_of (side_kinds side.Req) S.vars
       → length row ≡ count_of controlled S.vars → HasPlaces controlled v at required row
   controlled-places required row at is wide room out =
       let inside = L.inside S (side_kinds side.Req) n v (there, controlled-of-requirement n v out) in
@@ -66,8 +67,10 @@ module _ (L : Laws) (S : Tables) (n : ℕ) (v : Var) (there : slice_get S.vars n
       (omega (arith, inside, wide, is.place), omega (arith, among, room, own-place S kind.Con n v (there, out)))
 
   -- one more variable
-  pub put-more : (design old now new : List ℤ) (at : ℕ) → IsPlace S side.Sof n at → length old ≡ count_of outputs S.vars → ArePutOut S design n old now
-      → MatchBool (outputs 0 v) (new ≡ slice_set now v.place (slice_index_or design at (pos 0))) (new ≡ now) → ArePutOut S design (n + 1) old new
+  pub put-more : (design old now new : List ℤ) (at : ℕ) → IsPlace S side.Sof n at → length old ≡ count_of outputs S.vars
+      → ArePutOut S design n old now
+      → MatchBool (outputs 0 v) (new ≡ slice_set now v.place (slice_index_or design at (pos 0))) (new ≡ now)
+      → ArePutOut S design (n + 1) old new
   put-more design old now new at is room so_far put = by (outputs n v) refl put
     where
       one-of : (x : ℕ) (w : Var) → x < n + 1 → IsVar S outputs x w → (x < n → ⊥) → (x ≡ n) × IsTrue (outputs n v)
@@ -75,7 +78,8 @@ module _ (L : Laws) (S : Tables) (n : ℕ) (v : Var) (there : slice_get S.vars n
           let e : x ≡ n = omega (arith, less, least) in
           (e, ap (λ (u : Var). outputs n u) (same_Some v w (sym there ∙ ap (λ (k : ℕ). slice_get S.vars k) (sym e) ∙ var.0)) ∙ var.1)
 
-      by : (b : Bool) → outputs n v ≡ b → MatchBool b (new ≡ slice_set now v.place (slice_index_or design at (pos 0))) (new ≡ now) → ArePutOut S design (n + 1) old new
+      by : (b : Bool) → outputs n v ≡ b → MatchBool b (new ≡ slice_set now v.place (slice_index_or design at (pos 0))) (new ≡ now)
+          → ArePutOut S design (n + 1) old new
       by true out e =
           let place : v.place ≡ place_of outputs S.vars n = own-place S kind.Output n v (there, out) in
           let among = L.inside S outputs n v (there, out) in
@@ -84,15 +88,18 @@ module _ (L : Laws) (S : Tables) (n : ℕ) (v : Var) (there : slice_get S.vars n
             width = ap length e ∙ length-set now v.place _ ∙ so_far.width;
             below = λ x w less var. ⊎_elim
                 (λ l. let b = so_far.below x w l var in omega (arith, b, next))
-                (λ m. let q : place_of outputs S.vars x ≡ place_of outputs S.vars n = ap (place_of outputs S.vars) (one-of x w less var (λ l. omega (arith, l, m))).0 in omega (arith, q, next))
+                (λ m. let q : place_of outputs S.vars x ≡ place_of outputs S.vars n = ap (place_of outputs S.vars)
+                (one-of x w less var (λ l. omega (arith, l, m))).0 in omega (arith, q, next))
                 (cases_lt x n);
             told = λ x w less var. ⊎_elim
                 (λ l. ap (λ (row : List ℤ). slice_index_or row (place_of outputs S.vars x) (pos 0)) e
-                ∙ get_or-set_other now v.place (place_of outputs S.vars x) _ (pos 0) (λ q. let b = so_far.below x w l var in omega (arith, b, place, q))
+                ∙ get_or-set_other now v.place (place_of outputs S.vars x) _ (pos 0) (λ q. let b = so_far.below x w l var in
+                omega (arith, b, place, q))
                 ∙ so_far.told x w l var)
                 (λ m. let q : x ≡ n = (one-of x w less var (λ l. omega (arith, l, m))).0 in
                 ap (λ (row : List ℤ). slice_index_or row (place_of outputs S.vars x) (pos 0)) e
-                ∙ ap (λ (k : ℕ). slice_index_or (slice_set now v.place (slice_index_or design at (pos 0))) k (pos 0)) (ap (place_of outputs S.vars) q ∙ sym place)
+                ∙ ap (λ (k : ℕ). slice_index_or (slice_set now v.place (slice_index_or design at (pos 0))) k (pos 0))
+                (ap (place_of outputs S.vars) q ∙ sym place)
                 ∙ get_or-set_same now v.place (slice_index_or design at (pos 0)) (pos 0) (omega (arith, among, place, so_far.width, room))
                 ∙ ap (λ (k : ℕ). slice_index_or design k (pos 0)) (is.place ∙ ap (place_of (side_kinds side.Sof) S.vars) (sym q)))
                 (cases_lt x n);
@@ -116,14 +123,16 @@ module _ (L : Laws) (S : Tables) (n : ℕ) (v : Var) (there : slice_get S.vars n
   alike-more required row at is so_far one x w less var = ⊎_elim
       (λ l. so_far x w l var)
       (λ m. let q : x ≡ n = omega (arith, less, m) in
-      let out : IsTrue (controlled n v) = ap (λ (u : Var). controlled n u) (same_Some v w (sym there ∙ ap (λ (k : ℕ). slice_get S.vars k) (sym q) ∙ var.0)) ∙ var.1 in
+      let out : IsTrue (controlled n v) = ap (λ (u : Var). controlled n u)
+      (same_Some v w (sym there ∙ ap (λ (k : ℕ). slice_get S.vars k) (sym q) ∙ var.0)) ∙ var.1 in
       ap (λ (k : ℕ). slice_index_or required k (pos 0)) (ap (place_of (side_kinds side.Req) S.vars) q ∙ sym is.place)
       ∙ one out
       ∙ ap (λ (k : ℕ). slice_index_or row k (pos 0)) (own-place S kind.Con n v (there, out) ∙ ap (place_of controlled S.vars) (sym q)))
       (cases_lt x n)
 
   -- one that has two values
-  pub differ-here : (required row : List ℤ) (at : ℕ) → IsPlace S side.Req n at → IsDifferent v at required row → DiffersAt S (required ∷ []) (row ∷ []) 0
+  pub differ-here : (required row : List ℤ) (at : ℕ) → IsPlace S side.Req n at → IsDifferent v at required row
+      → DiffersAt S (required ∷ []) (row ∷ []) 0
   differ-here required row at is other = record {
     variable = n;
     declared = v;

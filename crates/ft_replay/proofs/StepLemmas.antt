@@ -4,11 +4,13 @@ use Rattle.std.specs.Prelude.{IsTrue}
 use Rattle.std.specs.List.{last_or}
 use Rattle.std.proofs.lemmas.List.{length_push}
 use Rattle.ft_core.specs.declared.tables.Tables.{Tables}
+use Rattle.ft_core.specs.declared.tables.Section.{Section}
+use Rattle.ft_core.specs.declared.tables.Section.TheVariants as section
 use Rattle.ft_core.specs.declared.tables.Side.{Side}
 use Rattle.ft_core.specs.declared.tables.Side.TheVariants as side
-use Rattle.ft_core.specs.Kinds.{Kinds, outputs, given_kinds, side_kinds, count_of}
+use Rattle.ft_core.specs.Kinds.{Kinds, image_kinds, monitored, outputs, given_kinds, side_kinds, count_of}
 use Rattle.ft_base.specs.Interval.{IsWithin}
-use Rattle.ft_mean.specs.Fits.{Fits}
+use Rattle.ft_mean.specs.Fits.{Fits, Maps}
 use Rattle.ft_mean.specs.Reading.{IsListOf, Scans, reading_of}
 use Rattle.ft_scan.specs.Allowing.{nat_after}
 use Rattle.ft_scan.specs.Scanning.{Scanning}
@@ -43,7 +45,8 @@ pub replays-more : Laws → (S : Tables) (m : List ℤ) (p q d e : Scanning) (al
     → Replays S q.given q.rows e.given e.rows (first_with first (length p.given) alike)
 replays-more L S m p q d e alike first p_set p_side d_set d_side run now on =
     carried S (first_with first (length p.given) alike)
-    (p.given ++ m ∷ []) q.given (p.rows ++ on.required_row ∷ []) q.rows (d.given ++ on.inputs_row ∷ []) e.given (d.rows ++ on.design_row ∷ []) e.rows
+    (p.given ++ m ∷ []) q.given (p.rows ++ on.required_row ∷ []) q.rows (d.given ++ on.inputs_row ∷ []) e.given
+    (d.rows ++ on.design_row ∷ []) e.rows
     on.required_ran.list on.required_ran.rows on.design_ran.list on.design_ran.rows
     (record {
       outputs_list = run.outputs_list ++ on.outputs_row ∷ [];
@@ -54,7 +57,8 @@ replays-more L S m p q d e alike first p_set p_side d_set d_side run now on =
       design = ran-fits S side.Sof d e on.inputs_row on.design_row d_set d_side on.design_ran;
       put_out = outputs-more L S d.rows run.outputs_list on.design_row on.outputs_row run.put_out on.put_out;
       output_map = out-map-more L S run.outputs_list run.controlled_list on.outputs_row on.controlled_row run.output_map on.output_map;
-      is_first = subst (λ (n : ℕ). IsFirst S (p.rows ++ on.required_row ∷ []) (run.controlled_list ++ on.controlled_row ∷ []) n (first_with first (length p.given) alike))
+      is_first = subst (λ (n : ℕ). IsFirst S (p.rows ++ on.required_row ∷ []) (run.controlled_list ++ on.controlled_row ∷ []) n
+          (first_with first (length p.given) alike))
           (sym (length_push p.given m))
           (first-more L S p.rows run.controlled_list on.required_row on.controlled_row (length p.given) run.required.lengths
           (run.output_map.lengths ∙ run.put_out.0 ∙ run.design.lengths ∙ run.input_map.lengths) first alike run.is_first on.compared);
@@ -74,24 +78,35 @@ module _ (S : Tables) where
     follows = λ t l. absurd (omega (arith, l));
   }
 
+  none-maps : (part : Section) (kinds : Kinds) → Maps S part kinds [] []
+  none-maps part kinds = record {
+    lengths = refl;
+    values = none-of (image_kinds part);
+    same_given = λ t x v l is. absurd (omega (arith, l));
+    follows = λ t l. absurd (omega (arith, l));
+  }
+
   pub replays-none : (h r i s : Scans) → h ≡ [] → r ≡ [] → i ≡ [] → s ≡ [] → Replays S h r i s None
   replays-none h r i s eh er ei es = carried S None [] h [] r [] i [] s eh er ei es (record {
     outputs_list = [];
     controlled_list = [];
     clauses = λ t l. absurd (omega (arith, l));
     required = none-fits side.Req;
-    input_map = record { lengths = refl; values = none-of _; same_given = λ t x v l is. absurd (omega (arith, l)); follows = λ t l. absurd (omega (arith, l)) };
+    input_map = none-maps section.In monitored;
     design = none-fits side.Sof;
     put_out = (refl, λ t x v l is. absurd (omega (arith, l)));
-    output_map = record { lengths = refl; values = none-of _; same_given = λ t x v l is. absurd (omega (arith, l)); follows = λ t l. absurd (omega (arith, l)) };
+    output_map = none-maps section.Out outputs;
     is_first = λ t l. absurd (omega (arith, l));
   })
 
 -- the outputs of the last scan of a trace of the design are in range
-pub outputs-listed : (S : Tables) (rows : Scans) (design_row outputs_row : List ℤ) → IsListOf S (side_kinds side.Sof) (rows ++ design_row ∷ [])
-    → AreOutputs S (design_row ∷ []) (outputs_row ∷ []) → length outputs_row ≡ count_of outputs S.vars → IsListOf S outputs (outputs_row ∷ [])
+pub outputs-listed : (S : Tables) (rows : Scans) (design_row outputs_row : List ℤ)
+    → IsListOf S (side_kinds side.Sof) (rows ++ design_row ∷ [])
+    → AreOutputs S (design_row ∷ []) (outputs_row ∷ []) → length outputs_row ≡ count_of outputs S.vars
+    → IsListOf S outputs (outputs_row ∷ [])
 outputs-listed S rows design_row outputs_row listed put wide = record {
-  widths = λ t l. let e : 0 ≡ t = omega (arith, l) in subst (λ (k : ℕ). length (slice_index_or (outputs_row ∷ []) k []) ≡ count_of outputs S.vars) e wide;
+  widths = λ t l. let e : 0 ≡ t = omega (arith, l) in
+      subst (λ (k : ℕ). length (slice_index_or (outputs_row ∷ []) k []) ≡ count_of outputs S.vars) e wide;
   ranges = λ t x v l is.
       let e : 0 ≡ t = omega (arith, l) in
       subst (λ (k : ℕ). IsWithin v.range (reading_of S outputs (outputs_row ∷ []) k x)) e

@@ -29,4 +29,5 @@ pub record BothRan (S : Tables) (monitored : List ℤ) (required required_new de
   pub design_ran : Ran design design_new inputs_row design_row
   pub put_out : AreOutputs S (design_row ∷ []) (outputs_row ∷ [])
   pub output_map : Maps S section.Out outputs (outputs_row ∷ []) (controlled_row ∷ [])
-  pub compared : MatchBool alike (SameAt S (required_row ∷ []) (controlled_row ∷ []) 0) (DiffersAt S (required_row ∷ []) (controlled_row ∷ []) 0)
+  pub compared : MatchBool alike (SameAt S (required_row ∷ []) (controlled_row ∷ []) 0)
+      (DiffersAt S (required_row ∷ []) (controlled_row ∷ []) 0)

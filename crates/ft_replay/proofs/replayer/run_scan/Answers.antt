@@ -17,11 +17,14 @@ use Rattle.ft_replay.proofs.replayer.run_scan.Goals as goal
 pub output_map-requires-clause-row : goal.output_map-requires-clause-row
 output_map-requires-clause-row c =
     let S = c.args.tables.now in
-    let design_is = c.as_slice-2.ensures.value ∙ with_items_is c.args.rows.now.design c.step-2.new.values (c.step-2.auto.values ∙ c.as_mut_slice-3.ensures.len) in
-    let out_is = c.as_slice-3.ensures.value ∙ with_items_is c.args.rows.now.outputs c.tell_outputs.new.row (c.tell_outputs.auto.row ∙ c.as_mut_slice-4.ensures.len) in
+    let design_is = c.as_slice-2.ensures.value
+    ∙ with_items_is c.args.rows.now.design c.step-2.new.values (c.step-2.auto.values ∙ c.as_mut_slice-3.ensures.len) in
+    let out_is = c.as_slice-3.ensures.value
+    ∙ with_items_is c.args.rows.now.outputs c.tell_outputs.new.row (c.tell_outputs.auto.row ∙ c.as_mut_slice-4.ensures.len) in
     let listed = subst (λ (rows : Scans). IsListOf S (side_kinds side.Sof) rows) c.step-2.ensures.rows
     (subst (λ (k : Side). IsListOf S (side_kinds k) c.step-2.new.self.rows) (c.step-2.ensures.side ∙ c.requires.design_side)
-    (subst (λ (s : Tables). IsListOf s (side_kinds c.step-2.new.self.side) c.step-2.new.self.rows) (c.step-2.ensures.set ∙ c.requires.design) c.step-2.ensures.fits.values)) in
+    (subst (λ (s : Tables). IsListOf s (side_kinds c.step-2.new.self.side) c.step-2.new.self.rows) (c.step-2.ensures.set
+    ∙ c.requires.design) c.step-2.ensures.fits.values)) in
     subst (λ (row : List ℤ). IsListOf S outputs (row ∷ [])) (sym out_is)
     (outputs-listed S c.args.design.now.rows c.step-2.new.values c.tell_outputs.new.row listed
     (subst (λ (row : List ℤ). AreOutputs S (row ∷ []) (c.tell_outputs.new.row ∷ [])) design_is c.tell_outputs.ensures.told)
@@ -30,11 +33,17 @@ output_map-requires-clause-row c =
 pub returns-clause-runs : goal.returns-clause-runs
 returns-clause-runs c =
     let S = c.args.tables.now in
-    let inputs_is = c.as_slice.ensures.value ∙ with_items_is c.args.rows.now.inputs c.input_map.new.inputs_row (c.input_map.auto.inputs_row ∙ c.as_mut_slice.ensures.len) in
-    let design_is = c.as_slice-2.ensures.value ∙ with_items_is c.args.rows.now.design c.step-2.new.values (c.step-2.auto.values ∙ c.as_mut_slice-3.ensures.len) in
-    let out_is = c.as_slice-3.ensures.value ∙ with_items_is c.args.rows.now.outputs c.tell_outputs.new.row (c.tell_outputs.auto.row ∙ c.as_mut_slice-4.ensures.len) in
-    let required_is = c.as_slice-4.ensures.value ∙ with_items_is c.args.rows.now.required c.step.new.values (c.step.auto.values ∙ c.as_mut_slice-2.ensures.len) in
-    let controlled_is = c.as_slice-5.ensures.value ∙ with_items_is c.args.rows.now.controlled c.output_map.new.controlled_row (c.output_map.auto.controlled_row ∙ c.as_mut_slice-5.ensures.len) in
+    let inputs_is = c.as_slice.ensures.value
+    ∙ with_items_is c.args.rows.now.inputs c.input_map.new.inputs_row (c.input_map.auto.inputs_row ∙ c.as_mut_slice.ensures.len) in
+    let design_is = c.as_slice-2.ensures.value
+    ∙ with_items_is c.args.rows.now.design c.step-2.new.values (c.step-2.auto.values ∙ c.as_mut_slice-3.ensures.len) in
+    let out_is = c.as_slice-3.ensures.value
+    ∙ with_items_is c.args.rows.now.outputs c.tell_outputs.new.row (c.tell_outputs.auto.row ∙ c.as_mut_slice-4.ensures.len) in
+    let required_is = c.as_slice-4.ensures.value
+    ∙ with_items_is c.args.rows.now.required c.step.new.values (c.step.auto.values ∙ c.as_mut_slice-2.ensures.len) in
+    let controlled_is = c.as_slice-5.ensures.value
+    ∙ with_items_is c.args.rows.now.controlled c.output_map.new.controlled_row (c.output_map.auto.controlled_row
+    ∙ c.as_mut_slice-5.ensures.len) in
     record {
       inputs_row = c.input_map.new.inputs_row;
       required_row = c.step.new.values;
@@ -42,7 +51,13 @@ returns-clause-runs c =
       outputs_row = c.tell_outputs.new.row;
       controlled_row = c.output_map.new.controlled_row;
       input_map = c.input_map.ensures;
-      required_ran = record { set = c.step.ensures.set; side = c.step.ensures.side; list = c.step.ensures.given; rows = c.step.ensures.rows; fits = c.step.ensures.fits };
+      required_ran = record {
+        set = c.step.ensures.set;
+        side = c.step.ensures.side;
+        list = c.step.ensures.given;
+        rows = c.step.ensures.rows;
+        fits = c.step.ensures.fits;
+      };
       design_ran = record {
         set = c.step-2.ensures.set;
         side = c.step-2.ensures.side;
@@ -51,7 +66,10 @@ returns-clause-runs c =
         fits = c.step-2.ensures.fits;
       };
       put_out = subst (λ (row : List ℤ). AreOutputs S (row ∷ []) (c.tell_outputs.new.row ∷ [])) design_is c.tell_outputs.ensures.told;
-      output_map = subst (λ (row : List ℤ). Maps S section.Out outputs (row ∷ []) (c.output_map.new.controlled_row ∷ [])) out_is c.output_map.ensures;
-      compared = subst (λ (row : List ℤ). MatchBool c.are_alike.result (SameAt S (row ∷ []) (c.output_map.new.controlled_row ∷ []) 0) (DiffersAt S (row ∷ []) (c.output_map.new.controlled_row ∷ []) 0)) required_is
-          (subst (λ (row : List ℤ). MatchBool c.are_alike.result (SameAt S (c.as_slice-4.result.now ∷ []) (row ∷ []) 0) (DiffersAt S (c.as_slice-4.result.now ∷ []) (row ∷ []) 0)) controlled_is c.are_alike.ensures);
+      output_map = subst (λ (row : List ℤ). Maps S section.Out outputs (row ∷ []) (c.output_map.new.controlled_row ∷ [])) out_is
+          c.output_map.ensures;
+      compared = subst (λ (row : List ℤ). MatchBool c.are_alike.result (SameAt S (row ∷ []) (c.output_map.new.controlled_row ∷ []) 0)
+          (DiffersAt S (row ∷ []) (c.output_map.new.controlled_row ∷ []) 0)) required_is
+          (subst (λ (row : List ℤ). MatchBool c.are_alike.result (SameAt S (c.as_slice-4.result.now ∷ []) (row ∷ []) 0)
+          (DiffersAt S (c.as_slice-4.result.now ∷ []) (row ∷ []) 0)) controlled_is c.are_alike.ensures);
     }

@@ -11,11 +11,13 @@ loop-variable-preserved c =
     c.as_slice-var-items.ensures c.loop-variable-test.true c.var-item.is in
     elim c.if-has.branch [
       | then-has+in_ok-push w ↦
-          let one = counted (class_of c.args.class) c.args.tables.now.vars c.loop-variable.variable c.var-item.result there (sym c.has.ensures ∙ w.if-has.true) in
+          let one = counted (class_of c.args.class) c.args.tables.now.vars c.loop-variable.variable c.var-item.result there
+          (sym c.has.ensures ∙ w.if-has.true) in
           let longer = ap length w.in_ok-push.ensures.items ∙ length_push c.loop-variable.row.items (pos 0) in
           ap (λ row. length row.items) w.row-is ∙ omega (arith, longer, one, c.loop-variable.invariant)
       | else-has w ↦
-          let same = passed (class_of c.args.class) c.args.tables.now.vars c.loop-variable.variable c.var-item.result there (sym c.has.ensures ∙ w.if-has.false) in
+          let same = passed (class_of c.args.class) c.args.tables.now.vars c.loop-variable.variable c.var-item.result there
+          (sym c.has.ensures ∙ w.if-has.false) in
           ap (λ row. length row.items) w.row-is ∙ omega (arith, same, c.loop-variable.invariant)
     ]
 

@@ -9,10 +9,12 @@ pub returns-clause-some : goal.returns-clause-some
 returns-clause-some c =
     let p = c.self.inside in
     subst (λ (w : Replaying). IfSome p.first (FirstDiffers w.set w.list)) c.self.view_is
-    (first-is c.laws.ensures p.tables.now c.self.invariant.proper p.required.given p.required.rows p.design.given p.design.rows p.first c.self.invariant.replays)
+    (first-is c.laws.ensures p.tables.now c.self.invariant.proper p.required.given p.required.rows p.design.given p.design.rows p.first
+    c.self.invariant.replays)
 
 pub returns-clause-none : goal.returns-clause-none
 returns-clause-none c =
     let p = c.self.inside in
     subst (λ (w : Replaying). IfNone p.first ((k : ℕ) → FirstDiffers w.set w.list k → ⊥)) c.self.view_is
-    (none-is c.laws.ensures p.tables.now c.self.invariant.proper p.required.given p.required.rows p.design.given p.design.rows p.first c.self.invariant.replays)
+    (none-is c.laws.ensures p.tables.now c.self.invariant.proper p.required.given p.required.rows p.design.given p.design.rows p.first
+    c.self.invariant.replays)
