@@ -23,9 +23,6 @@ pub record IsPlace (S : Tables) (s : Side) (n at : ℕ) : Type 0 where
   pub place : at ≡ place_of (side_kinds s) S.vars n
   pub low : at ≤ n
 
-pub place-begins : (S : Tables) (s : Side) → IsPlace S s 0 0
-place-begins S s = record { place = refl; low = omega arith }
-
 pub place-more : (S : Tables) (s : Side) (n at next : ℕ) (v : Var) → slice_get S.vars n ≡ Some v → IsPlace S s n at
     → next ≡ cond (side_kinds s n v) (at + 1) at → IsPlace S s (n + 1) next
 place-more S s n at next v there is next_is = record {
@@ -162,7 +159,3 @@ module _ (L : Laws) (S : Tables) (n : ℕ) (all : n ≡ length S.vars) where
   all-alike required row alike x v is =
       L.at_place S (side_kinds side.Req) (required ∷ []) 0 x v (is.0, controlled-of-requirement x v is.1)
       ∙ alike x v (within x v is.0) is ∙ sym (L.at_place S controlled (row ∷ []) 0 x v is)
-
--- no variable yet
-pub none-put : (S : Tables) (design row : List ℤ) → ArePutOut S design 0 row row
-none-put S design row = record { width = refl; below = λ x v l is. absurd (omega (arith, l)); told = λ x v l is. absurd (omega (arith, l)) }

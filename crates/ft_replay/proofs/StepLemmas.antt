@@ -4,13 +4,11 @@ use Rattle.std.specs.Prelude.{IsTrue}
 use Rattle.std.specs.List.{last_or}
 use Rattle.std.proofs.lemmas.List.{length_push}
 use Rattle.ft_core.specs.declared.tables.Tables.{Tables}
-use Rattle.ft_core.specs.declared.tables.Section.{Section}
-use Rattle.ft_core.specs.declared.tables.Section.TheVariants as section
 use Rattle.ft_core.specs.declared.tables.Side.{Side}
 use Rattle.ft_core.specs.declared.tables.Side.TheVariants as side
-use Rattle.ft_core.specs.Kinds.{Kinds, image_kinds, monitored, outputs, given_kinds, side_kinds, count_of}
+use Rattle.ft_core.specs.Kinds.{outputs, side_kinds, count_of}
 use Rattle.ft_base.specs.Interval.{IsWithin}
-use Rattle.ft_mean.specs.Fits.{Fits, Maps}
+use Rattle.ft_mean.specs.Fits.{Fits}
 use Rattle.ft_mean.specs.Reading.{IsListOf, Scans, reading_of}
 use Rattle.ft_scan.specs.Allowing.{nat_after}
 use Rattle.ft_scan.specs.Scanning.{Scanning}
@@ -63,41 +61,6 @@ replays-more L S m p q d e alike first p_set p_side d_set d_side run now on =
           (first-more L S p.rows run.controlled_list on.required_row on.controlled_row (length p.given) run.required.lengths
           (run.output_map.lengths ∙ run.put_out.0 ∙ run.design.lengths ∙ run.input_map.lengths) first alike run.is_first on.compared);
     })
-
-module _ (S : Tables) where
-  -- a list of no scan is of any kind, and fits
-  none-of : (kinds : Kinds) → IsListOf S kinds []
-  none-of kinds = record { widths = λ t l. absurd (omega (arith, l)); ranges = λ t x v l is. absurd (omega (arith, l)) }
-
-  none-fits : (k : Side) → Fits S k [] []
-  none-fits k = record {
-    is_given = none-of (given_kinds k);
-    lengths = refl;
-    values = none-of (side_kinds k);
-    same_given = λ t x v l is. absurd (omega (arith, l));
-    follows = λ t l. absurd (omega (arith, l));
-  }
-
-  none-maps : (part : Section) (kinds : Kinds) → Maps S part kinds [] []
-  none-maps part kinds = record {
-    lengths = refl;
-    values = none-of (image_kinds part);
-    same_given = λ t x v l is. absurd (omega (arith, l));
-    follows = λ t l. absurd (omega (arith, l));
-  }
-
-  pub replays-none : (h r i s : Scans) → h ≡ [] → r ≡ [] → i ≡ [] → s ≡ [] → Replays S h r i s None
-  replays-none h r i s eh er ei es = carried S None [] h [] r [] i [] s eh er ei es (record {
-    outputs_list = [];
-    controlled_list = [];
-    clauses = λ t l. absurd (omega (arith, l));
-    required = none-fits side.Req;
-    input_map = none-maps section.In monitored;
-    design = none-fits side.Sof;
-    put_out = (refl, λ t x v l is. absurd (omega (arith, l)));
-    output_map = none-maps section.Out outputs;
-    is_first = λ t l. absurd (omega (arith, l));
-  })
 
 -- the outputs of the last scan of a trace of the design are in range
 pub outputs-listed : (S : Tables) (rows : Scans) (design_row outputs_row : List ℤ)

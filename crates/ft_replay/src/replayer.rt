@@ -105,7 +105,8 @@ impl<'t> Replayer<'t> {
         })
     }
 
-    /// Adds a scan to the list, which the environment allows there. It takes no memory.
+    /// Adds a scan to the list, which the environment allows after the list's last scan: what `allowed_step` answers of the two.
+    /// It takes no memory.
     pub fn scan(&mut self, monitored_row: &[i64])
         requires row { IsListOf self.old.set monitored (monitored_row.now ∷ []) }
         requires more { length self.old.list < 18446744073709551615 }

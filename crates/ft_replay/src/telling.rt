@@ -9,10 +9,12 @@ use crate::law::laws;
 use crate::rows::next_place;
 use ft_core::{Side, Tables, Var, VarKind};
 
-/// Puts the value of a variable, which stands at a place of the design's row, at its place of the outputs' row, if it is an output.
+/// Puts the value of an output, which stands at a place of the design's row, at its own place of a row of outputs. Any other
+/// variable is passed over.
 fn tell_output(var: &Var, design: &[i64], at: usize, row: &mut [i64])
     requires { HasPlaces outputs var.now at design.now row.old }
-    ensures { MatchBool (outputs 0 var.now) (row.new ≡ slice_set row.old var.now.place (slice_index_or design.now at (pos 0))) (row.new ≡ row.old) }
+    ensures { MatchBool (outputs 0 var.now) (row.new ≡ slice_set row.old var.now.place (slice_index_or design.now at (pos 0)))
+        (row.new ≡ row.old) }
 {
     if var.kind == VarKind::Output {
         row[var.place as usize] = design[at];
