@@ -1,5 +1,5 @@
 //! Whether the two sides agree at a scan.
-ghost use Rattle.std.specs.Prelude.{◌≡◌, ◌∷◌, [], length, MatchBool, pos, slice_index_or};
+ghost use Rattle.std.specs.Prelude.{◌≡◌, ◌∷◌, [], length, MatchBool};
 ghost use Rattle.ft_core.specs.declared.tables.Side.TheVariants.{Req};
 ghost use Rattle.ft_core.specs.Kinds.{controlled, count_of, side_kinds};
 ghost use Rattle.ft_mean.specs.Refines.{SameAt};
