@@ -1,0 +1,6 @@
+mod CountLemmas
+mod DifferLemmas
+mod FirstLemmas
+mod LongerLemmas
+mod RowLemmas
+mod StepLemmas
