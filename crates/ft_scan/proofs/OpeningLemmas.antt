@@ -35,8 +35,8 @@ all_start_more S n runs run long starts so_far m l = ⊎_elim
 
 -- before scan 0 it was told no scan
 pub told_none : (S : Tables) (a : Reading) (period : ℤ) (memory : Memory) (run : Running) → IsRunOf period memory run → IsFresh run → WasTold S a 0 memory run
-told_none S a period (Held name s c hold) (Timer t) of fresh = (ap length fresh, λ j l. absurd (omega (arith, l)))
-told_none S a period (Hyst name s e lo hi start) (Band u) of fresh = (ap length fresh, λ j l. absurd (omega (arith, l)))
+told_none S a period (Held name s c hold) (Timer t) of fresh = (ap length fresh ∙ omega arith, λ j low l. absurd (omega (arith, l)))
+told_none S a period (Hyst name s e lo hi start) (Band u) of fresh = (ap length fresh ∙ omega arith, λ j low l. absurd (omega (arith, l)))
 told_none S a period (Held name s c hold) (Band u) of fresh = absurd of
 told_none S a period (Hyst name s e lo hi start) (Timer t) of fresh = absurd of
 

@@ -24,6 +24,7 @@ use Rattle.ft_scan.specs.Told.{IsScan, IsTold, IsRight, RunsFor}
 use Rattle.ft_scan.proofs.ListedLemmas.{listed, listed_at, of_var}
 use Rattle.ft_scan.proofs.LongerLemmas.{reading_last, list_longer, before_alike}
 use Rattle.ft_scan.proofs.RunLemmas.{runs_alike}
+use Rattle.ft_scan.proofs.SinceLemmas.{before_next}
 use Rattle.ft_scan.specs.Laws.{Laws}
 
 -- where the values are those at some places of a row, the row has them there
@@ -193,7 +194,7 @@ module _ (L : Laws) (S : Tables) (proper : AllProper S) (sc : Kept) (earlier row
           (subst (λ z. Stands S (record { side = sc.side; steps = sc.steps; given = sc.given; own = sc.own; frame = passed frame }) (earlier ++ given ∷ []) (rows ++ z ∷ [])) same_row
           (record {
             fits = fits;
-            past = λ x v of. known x v of ∙ ap (λ k. before S a k x) more;
+            past = λ x v of. known x v of ∙ sym (before_next S a n x) ∙ ap (λ k. before S a k x) more;
             runs = λ m of. subst (λ k. RunsFor S a k m frame) more (told_run m of);
             is_frame = record {
               now = told.is_frame.past;
