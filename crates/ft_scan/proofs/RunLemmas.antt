@@ -1,5 +1,5 @@
 -- A memory that runs was told the same by readings that agree.
-use Rattle.std.proofs.Common.{◌≡◌, ◌∙◌, sym, subst, ℕ, suc, ◌<◌, slice_get, Some, true, arith}
+use Rattle.std.proofs.Common.{◌≡◌, ◌∙◌, sym, subst, ℕ, ◌<◌, slice_get, Some, true, arith}
 use Rattle.std.specs.List.{Contains}
 use Rattle.ft_core.specs.declared.tables.Tables.{Tables}
 use Rattle.ft_core.specs.declared.tables.Side.{Side}
