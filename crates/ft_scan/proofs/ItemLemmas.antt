@@ -1,9 +1,7 @@
 -- One item of a scan: where what it reads is told as the trace has it, its value or truth is the trace's.
-use Rattle.std.proofs.Common.{◌≡◌, ◌∙◌, sym, ap, subst, refl, ℕ, suc, ◌+◌, ◌-◌, ◌<◌, ◌≤◌, ℤ, pos, Bool, false, List, [], ◌∷◌, ◌++◌, length, slice_get, Some, arith, ⊎_elim}
+use Rattle.std.proofs.Common.{◌≡◌, ◌∙◌, sym, ap, subst, ℕ, suc, ◌+◌, ◌-◌, ◌<◌, ◌≤◌, ℤ, Bool, List, [], ◌∷◌, length, slice_get, Some, arith}
 use Rattle.std.specs.Prelude.{IsTrue}
 use Rattle.std.specs.List.{flat_map}
-use Rattle.std.proofs.lemmas.Bool.{cases_lt}
-use Rattle.std.proofs.lemmas.List.{length_push, get_or_push, get_or_append_left}
 use Rattle.ft_base.specs.Interval.{IsWithin}
 use Rattle.ft_core.specs.declared.tables.Tables.{Tables}
 use Rattle.ft_core.specs.declared.tables.Var.{Var}
@@ -13,7 +11,7 @@ use Rattle.ft_core.specs.declared.term.Term.{Term}
 use Rattle.ft_core.specs.declared.term.Cond.{Cond}
 use Rattle.ft_core.specs.Kinds.{defined_kinds, section_of}
 use Rattle.ft_core.specs.Grids.{cells_for}
-use Rattle.ft_core.specs.Reads.{cell_reads, cond_reads, term_reads}
+use Rattle.ft_core.specs.Reads.{cell_reads}
 use Rattle.ft_mean.specs.Cells.{defined, Follows}
 use Rattle.ft_mean.specs.Memory.{look, memory_at, at_scan, remembered}
 use Rattle.ft_mean.specs.Past.{held, hyst}
@@ -75,13 +73,13 @@ module _ (L : Laws) (S : Tables) (a : Reading) (n m : ℕ) where
   band_is name side e lo hi start there numbers long told =
       let low = L.begun_low S a n in
       let last : length numbers ≡ suc (n - from) = omega (arith, long, low) in
-      after lo hi start numbers (n - from) last
+      some_after lo hi start numbers (n - from) last
       ∙ L.same_hyst 0 lo hi start (number_at numbers) (λ j. value (here (from + j)) e) (n - from) (λ j l.
       let back : j ≡ (from + j) - from = omega arith in
       ap (number_at numbers) back ∙ told (from + j) (omega arith) (omega (arith, l, low)))
       ∙ (hyst_moved L) from n low lo hi start (λ j. value (here j) e)
       ∙ sym (L.remember S a m n ∙ ap (λ o. remembered S a (memory_at S a) o n) there)
     where
-      after : (lo hi : ℤ) (start : Bool) (xs : List ℤ) (k : ℕ) → length xs ≡ suc k → hyst_after lo hi start xs ≡ hyst 0 lo hi start (number_at xs) k
-      after lo hi start [] k e = absurd (omega (arith, e))
-      after lo hi start (x ∷ xs) k e = let rest : length xs ≡ k = omega (arith, e) in ap (hyst 0 lo hi start (number_at (x ∷ xs))) rest
+      some_after : (lo hi : ℤ) (start : Bool) (xs : List ℤ) (k : ℕ) → length xs ≡ suc k → hyst_after lo hi start xs ≡ hyst 0 lo hi start (number_at xs) k
+      some_after lo hi start [] k e = absurd (omega (arith, e))
+      some_after lo hi start (x ∷ xs) k e = let rest : length xs ≡ k = omega (arith, e) in ap (hyst 0 lo hi start (number_at (x ∷ xs))) rest

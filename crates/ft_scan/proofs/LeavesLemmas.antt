@@ -26,8 +26,8 @@ use Rattle.ft_scan.specs.declared.plan.Step.TheVariants as step
 use Rattle.ft_scan.specs.declared.frame.Frame.{Frame}
 use Rattle.ft_scan.specs.declared.frame.Running.{Running}
 use Rattle.ft_scan.specs.declared.frame.Running.TheVariants.{Timer, Band}
-use Rattle.ft_scan.specs.Frame.{view_of, IsFrameOf, IsRunOf, Advances, FindsColumn, FindsCell, FindsEntry, GoesOn, Leaves}
-use Rattle.ft_scan.specs.Plan.{CanFindColumn, CanFindCell, CanFindEntry, CanGoOn, CanFollow, IsPlan, AreKnown}
+use Rattle.ft_scan.specs.Frame.{view_of, IsFrameOf, IsRunOf, Advances, FindsColumn, FindsCell, FindsEntry, AdvancesMemory, Leaves}
+use Rattle.ft_scan.specs.Plan.{CanFindColumn, CanFindCell, CanFindEntry, CanAdvanceMemory, CanFollow, IsPlan, AreKnown}
 use Rattle.ft_scan.specs.Told.{IsScan, IsTold, IsRight, WasTold, WasToldSince, RunsFor}
 use Rattle.ft_scan.proofs.FoundLemmas.{vector_gives}
 use Rattle.ft_scan.proofs.FrameLemmas.{of_kinds}
@@ -240,7 +240,7 @@ module _ (L : Laws) (S : Tables) (proper : AllProper S) (s : Side) (steps : List
       (value_keeps x v.0 v.1 (value V finds.term) is (step.Entry x table row) (set_here x v.0 v.1 (value V finds.term) is))
 
   -- a memory goes on from what it was told
-  module _ (m : ℕ) (can : CanGoOn S s steps p m) (at : slice_get steps p ≡ Some (step.Memory m)) (next : Frame) (goes : GoesOn S m frame next) where
+  module _ (m : ℕ) (can : CanAdvanceMemory S s steps p m) (at : slice_get steps p ≡ Some (step.Memory m)) (next : Frame) (goes : AdvancesMemory S m frame next) where
     goes_right : IsRunOf S.period goes.memory goes.next × WasTold S a (suc n) goes.memory goes.next × (goes.says ≡ memory_at S a m n)
     goes_right =
         let ran = told.waits m p (omega arith) at goes.memory goes.there in

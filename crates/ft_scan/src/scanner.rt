@@ -28,7 +28,7 @@ pub struct Scanner<'t> {
     steps: List<Step>,
     /// The places in the set of the variables that are given, and of all variables of the side, in order of declaration.
     given: List<u32>,
-    own: List<u32>,
+    side_variables: List<u32>,
     frame: Frame,
     /// The values of each scan, by their places in the set.
     past: Told<List<i64>>,
@@ -71,7 +71,7 @@ impl<'t> Scanner<'t> {
             side,
             steps: plan(alloc, tables, side, order.as_slice())?,
             given: part_places(alloc, tables, Part::Given(side))?,
-            own: part_places(alloc, tables, Part::Whole(side))?,
+            side_variables: part_places(alloc, tables, Part::Whole(side))?,
             frame: first_frame(alloc, tables)?,
             past: Told::new(),
         })
@@ -105,7 +105,11 @@ impl<'t> Scanner<'t> {
             self.steps.as_slice(),
             &mut self.frame,
         );
-        tell_values(self.own.as_slice(), self.frame.now.as_slice(), values);
+        tell_values(
+            self.side_variables.as_slice(),
+            self.frame.now.as_slice(),
+            values,
+        );
         end_scan(&mut self.frame);
         self.past = self.past.with(&self.frame.past);
     }

@@ -4,7 +4,7 @@ use Rattle.ft_scan.specs.declared.frame.Running.{Running}
 use Rattle.ft_scan.specs.Frame.{view_of}
 use Rattle.ft_scan.specs.Stepping.{CanHear, Hears}
 use Rattle.ft_scan.proofs.FrameLemmas.{memory_safe, can_hear, hears_advances}
-use Rattle.ft_scan.proofs.stepping.go_on.Goals as goal
+use Rattle.ft_scan.proofs.stepping.advance_memory.Goals as goal
 
 pub sample_of-sample-requires : goal.sample_of-sample-requires
 sample_of-sample-requires c = memory_safe c.args.tables.now c.args.frame.now c.requires.frame c.args.memory c.get.result.now c.get.ensures
