@@ -22,7 +22,7 @@ use Rattle.ft_mean.specs.EvaluationLaws.{AllSame}
 use Rattle.ft_mean.specs.TableLaws.{TableOf, OneValue}
 use Rattle.ft_memo.specs.Timer.{held_after, truth_at, ago}
 use Rattle.ft_memo.specs.Band.{hyst_after, number_at}
-use Rattle.ft_scan.specs.Laws.{Laws}
+use Rattle.ft_scan.specs.laws.Laws.{Laws}
 use Rattle.ft_scan.proofs.SinceLemmas.{held_moved, ago_moved, hyst_moved}
 
 module _ (L : Laws) (S : Tables) (proper : AllProper S) (s : Side) (a : Reading) (n : ℕ)

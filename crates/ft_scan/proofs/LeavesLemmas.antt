@@ -26,9 +26,9 @@ use Rattle.ft_scan.specs.declared.plan.Step.TheVariants as step
 use Rattle.ft_scan.specs.declared.frame.Frame.{Frame}
 use Rattle.ft_scan.specs.declared.frame.Running.{Running}
 use Rattle.ft_scan.specs.declared.frame.Running.TheVariants.{Timer, Band}
-use Rattle.ft_scan.specs.Frame.{view_of, IsFrameOf, IsRunOf, Advances, FindsColumn, FindsCell, FindsEntry, AdvancesMemory, Leaves}
-use Rattle.ft_scan.specs.Plan.{CanFindColumn, CanFindCell, CanFindEntry, CanAdvanceMemory, CanFollow, IsPlan, AreKnown}
-use Rattle.ft_scan.specs.Told.{IsScan, IsTold, IsRight, WasTold, WasToldSince, RunsFor}
+use Rattle.ft_scan.specs.steps.Frame.{view_of, IsFrameOf, IsRunOf, Advances, FindsColumn, FindsCell, FindsEntry, AdvancesMemory, Leaves}
+use Rattle.ft_scan.specs.steps.Plan.{CanFindColumn, CanFindCell, CanFindEntry, CanAdvanceMemory, CanFollow, IsPlan, AreKnown}
+use Rattle.ft_scan.specs.steps.Told.{IsScan, IsTold, IsRight, WasTold, WasToldSince, RunsFor}
 use Rattle.ft_scan.proofs.FoundLemmas.{vector_gives}
 use Rattle.ft_scan.proofs.FrameLemmas.{of_kinds}
 use Rattle.ft_scan.proofs.ItemLemmas.{is_value, timer_is, band_is}
@@ -36,7 +36,7 @@ use Rattle.ft_scan.proofs.KnownLemmas.{truth_known, cells_known, all_here}
 use Rattle.ft_scan.proofs.SinceLemmas.{begun_stays}
 use Rattle.ft_scan.proofs.TableLemmas.{found_defined}
 use Rattle.ft_scan.proofs.VectorLemmas.{same_columns, same_targets, is_for_target}
-use Rattle.ft_scan.specs.Laws.{Laws}
+use Rattle.ft_scan.specs.laws.Laws.{Laws}
 
 -- a list of what the scans from `from` on told has one more after a scan
 one_more_told : {X : Type 0} (xs ys : List X) (x d : X) (from n : ℕ) (f : ℕ → X) → ys ≡ xs ++ x ∷ [] → from ≤ n → length xs ≡ n - from

@@ -18,11 +18,11 @@ use Rattle.ft_scan.specs.declared.plan.Step.{Step}
 use Rattle.ft_scan.specs.declared.frame.Frame.{Frame}
 use Rattle.ft_scan.specs.declared.frame.Running.{Running}
 use Rattle.ft_scan.specs.declared.frame.Running.TheVariants.{Timer, Band}
-use Rattle.ft_scan.specs.Frame.{IsFrameOf, IsRunOf}
-use Rattle.ft_scan.specs.Opening.{AllStart, IsFresh, IsStart, Starts}
-use Rattle.ft_scan.specs.Plan.{IsPlan}
-use Rattle.ft_scan.specs.Stands.{Stands, ArePlaces}
-use Rattle.ft_scan.specs.Told.{WasTold}
+use Rattle.ft_scan.specs.steps.Frame.{IsFrameOf, IsRunOf}
+use Rattle.ft_scan.specs.steps.Opening.{AllStart, IsFresh, IsStart, Starts}
+use Rattle.ft_scan.specs.steps.Plan.{IsPlan}
+use Rattle.ft_scan.specs.steps.Stands.{Stands, ArePlaces}
+use Rattle.ft_scan.specs.steps.Told.{WasTold}
 
 -- one more memory
 pub all_start_more : (S : Tables) (n : ℕ) (runs : List Running) (run : Running) → length runs ≡ n → Starts S n run → AllStart S n runs

@@ -15,11 +15,11 @@ use Rattle.ft_scan.specs.declared.homes.Home.TheVariants.{Whole, Row}
 use Rattle.ft_scan.specs.declared.plan.Planned.{Planned}
 use Rattle.ft_scan.specs.declared.plan.Step.{Step}
 use Rattle.ft_scan.specs.declared.plan.Step.TheVariants as step
-use Rattle.ft_scan.specs.Homes.{IsHome, IsRowHome}
-use Rattle.ft_scan.specs.Plan.{Makes, IsMade, IsKnown, CanFindColumn, CanFollow, IsPlan}
-use Rattle.ft_scan.specs.Planning.{Keeps, Adds, FirstColumn, AddsHome, AddsItem, item_of, IsRightSoFar, HasMade, IsSoFar}
+use Rattle.ft_scan.specs.steps.Homes.{IsHome, IsRowHome}
+use Rattle.ft_scan.specs.steps.Plan.{Makes, IsMade, IsKnown, CanFindColumn, CanFollow, IsPlan}
+use Rattle.ft_scan.specs.steps.Planning.{Keeps, Adds, FirstColumn, AddsHome, AddsItem, item_of, IsRightSoFar, HasMade, IsSoFar}
 use Rattle.ft_scan.proofs.PlanReads.{known-cells, known-entries, known-columns, known-memory, of-within, memory-within}
-use Rattle.ft_scan.specs.Laws.{Laws}
+use Rattle.ft_scan.specs.laws.Laws.{Laws}
 
 -- what stands in a list of steps stands at the same place in a longer one
 abbrev Begins : (steps more : List Step) → Type 0

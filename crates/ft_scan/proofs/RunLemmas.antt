@@ -16,8 +16,8 @@ use Rattle.ft_core.specs.Sound.{on_side}
 use Rattle.ft_scan.specs.declared.frame.Frame.{Frame}
 use Rattle.ft_scan.specs.declared.frame.Running.{Running}
 use Rattle.ft_scan.specs.declared.frame.Running.TheVariants.{Timer, Band}
-use Rattle.ft_scan.specs.Told.{WasToldSince, RunsFor}
-use Rattle.ft_scan.specs.Laws.{Laws}
+use Rattle.ft_scan.specs.steps.Told.{WasToldSince, RunsFor}
+use Rattle.ft_scan.specs.laws.Laws.{Laws}
 use Rattle.ft_scan.proofs.SinceLemmas.{begun_alike}
 
 module _ (L : Laws) (S : Tables) (a b : Reading) (n : ℕ) (same : (j x : ℕ) → j < n → a j x ≡ b j x) where

@@ -9,7 +9,7 @@ use Rattle.ft_mean.specs.Past.{scans, held, hyst}
 use Rattle.ft_mean.specs.PastLaws.{next_bit}
 use Rattle.ft_mean.specs.Reading.{Reading, begins, begun, since, scan_before, before, init_of}
 use Rattle.ft_memo.specs.Timer.{ago}
-use Rattle.ft_scan.specs.Laws.{Laws}
+use Rattle.ft_scan.specs.laws.Laws.{Laws}
 
 any_mapped : {A B : Type 0} (p : B → Bool) (f : A → B) (xs : List A) → list_any p (map f xs) ≡ list_any (λ x. p (f x)) xs
 any_mapped p f [] = refl

@@ -16,16 +16,16 @@ use Rattle.ft_mean.specs.Reading.{Reading, Scans, IsListOf, IsVar, reading_of, b
 use Rattle.ft_scan.specs.declared.plan.Step.{Step}
 use Rattle.ft_scan.specs.declared.plan.Step.TheVariants as step
 use Rattle.ft_scan.specs.declared.frame.Frame.{Frame}
-use Rattle.ft_scan.specs.Plan.{Makes}
-use Rattle.ft_scan.specs.Passing.{passed}
-use Rattle.ft_scan.specs.Put.{ArePut, AreTold}
-use Rattle.ft_scan.specs.Stands.{Kept, Stands, rows_at}
-use Rattle.ft_scan.specs.Told.{IsScan, IsTold, IsRight, RunsFor}
+use Rattle.ft_scan.specs.steps.Plan.{Makes}
+use Rattle.ft_scan.specs.steps.Passing.{passed}
+use Rattle.ft_scan.specs.steps.Put.{ArePut, AreTold}
+use Rattle.ft_scan.specs.steps.Stands.{Kept, Stands, rows_at}
+use Rattle.ft_scan.specs.steps.Told.{IsScan, IsTold, IsRight, RunsFor}
 use Rattle.ft_scan.proofs.ListedLemmas.{listed, listed_at, of_var}
 use Rattle.ft_scan.proofs.LongerLemmas.{reading_last, list_longer, before_alike}
 use Rattle.ft_scan.proofs.RunLemmas.{runs_alike}
 use Rattle.ft_scan.proofs.SinceLemmas.{before_next}
-use Rattle.ft_scan.specs.Laws.{Laws}
+use Rattle.ft_scan.specs.laws.Laws.{Laws}
 
 -- where the values are those at some places of a row, the row has them there
 pub row_is : (row : List ℤ) (places : List ℕ) (values : List ℤ) → length values ≡ length places

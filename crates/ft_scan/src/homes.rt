@@ -1,5 +1,5 @@
 ghost use Rattle.std.specs.Prelude.{◌≡◌, ◌≤◌, ℕ, length, slice_set, Some, IfOk};
-ghost use Rattle.ft_scan.specs.Homes.{AreHomes, PutsHomes, PutsRowHomes};
+ghost use Rattle.ft_scan.specs.steps.Homes.{AreHomes, PutsHomes, PutsRowHomes};
 
 use ft_base::{List, NoMemory};
 use ft_core::{Grid, Section, Table};

@@ -1,4 +1,4 @@
-ghost use Rattle.ft_scan.specs.Laws.{Laws};
+ghost use Rattle.ft_scan.specs.laws.Laws.{Laws};
 
 use ft_mean::{
     evaluation_laws, look_laws, memory_laws, past_laws, row_laws, table_laws, time_laws, trace_laws,

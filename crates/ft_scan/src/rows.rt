@@ -1,7 +1,7 @@
 ghost use Rattle.std.specs.Prelude.{◌≡◌, ◌∷◌, []};
 ghost use Rattle.ft_core.specs.Kinds.{of_kind};
 ghost use Rattle.ft_mean.specs.Reading.{reading_of};
-ghost use Rattle.ft_scan.specs.Rows.{row_view};
+ghost use Rattle.ft_scan.specs.steps.Rows.{row_view};
 
 use ft_core::{Tables, VarKind, kind_place};
 use ft_mean::Look;

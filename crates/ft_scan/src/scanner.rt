@@ -3,7 +3,7 @@ ghost use Rattle.ft_core.specs.Kinds.{count_of, given_kinds, side_kinds};
 ghost use Rattle.ft_mean.specs.Fits.{Fits};
 ghost use Rattle.ft_mean.specs.Proper.{AllProper};
 ghost use Rattle.ft_mean.specs.Reading.{IsListOf};
-ghost use Rattle.ft_scan.specs.Passing.{passed};
+ghost use Rattle.ft_scan.specs.steps.Passing.{passed};
 
 use crate::frame::Frame;
 use crate::law::laws;
@@ -35,7 +35,7 @@ pub struct Scanner<'t> {
 }
 
 impl<'t> Model for Scanner<'t> {
-    ghost use Rattle.ft_scan.specs.Scanning.{Scanning};
+    ghost use Rattle.ft_scan.specs.meaning.Scanning.{Scanning};
     ghost use Rattle.std.specs.Coded.{codes};
     ghost use Rattle.ft_core.specs.contracts.tables.Tables as checked_set;
 
@@ -43,7 +43,7 @@ impl<'t> Model for Scanner<'t> {
 
     ghost coded = { Prim.hlevel (codes, checked_set.the_row.coded) };
 
-    ghost use Rattle.ft_scan.specs.Stands.{scanning, IsRunning};
+    ghost use Rattle.ft_scan.specs.steps.Stands.{scanning, IsRunning};
 
     ghost view = { scanning };
 

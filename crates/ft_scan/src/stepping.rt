@@ -6,10 +6,10 @@ ghost use Rattle.ft_mean.specs.Cells.{defined};
 ghost use Rattle.ft_mean.specs.Proper.{AllProper};
 ghost use Rattle.ft_mean.specs.Reading.{Reading};
 ghost use Rattle.ft_mean.specs.Safe.{KeepsSizes, IsSafeMemory};
-ghost use Rattle.ft_scan.specs.Frame.{view_of, IsFrameOf, CanTake, Leaves, HasColumn, FindsColumn, HasCell, FindsCell, HasEntry, FindsEntry, AdvancesMemory};
-ghost use Rattle.ft_scan.specs.Plan.{IsPlan};
-ghost use Rattle.ft_scan.specs.Stepping.{sample_of, CanHear, Hears};
-ghost use Rattle.ft_scan.specs.Told.{IsScan, IsTold};
+ghost use Rattle.ft_scan.specs.steps.Frame.{view_of, IsFrameOf, CanTake, Leaves, HasColumn, FindsColumn, HasCell, FindsCell, HasEntry, FindsEntry, AdvancesMemory};
+ghost use Rattle.ft_scan.specs.steps.Plan.{IsPlan};
+ghost use Rattle.ft_scan.specs.steps.Stepping.{sample_of, CanHear, Hears};
+ghost use Rattle.ft_scan.specs.steps.Told.{IsScan, IsTold};
 
 use crate::cells::{entry_value, open_column, value_in};
 use crate::frame::{Frame, Running};

@@ -1,6 +1,6 @@
 use Rattle.std.proofs.Common.{◌≡◌, ◌∙◌, ◌+◌, sym, ap, subst, refl, length, slice_get, Some}
 use Rattle.std.proofs.lemmas.Option.{slice_get_read}
-use Rattle.ft_scan.specs.Homes.{AreHomes}
+use Rattle.ft_scan.specs.steps.Homes.{AreHomes}
 use Rattle.ft_scan.proofs.HomeLemmas.{one-table, other-table}
 use Rattle.ft_scan.proofs.homes.homes.Goals as goal
 use Rattle.ft_scan.proofs.homes.homes.Goals.{then-is, else-is}

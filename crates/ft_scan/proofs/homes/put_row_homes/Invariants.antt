@@ -1,4 +1,4 @@
-use Rattle.ft_scan.specs.Homes.{PutsRowHomes}
+use Rattle.ft_scan.specs.steps.Homes.{PutsRowHomes}
 use Rattle.ft_scan.proofs.homes.put_row_homes.Given as goal
 
 abbrev pub invariant-rows : goal.invariant-rows

@@ -1,5 +1,5 @@
 use Rattle.std.proofs.Common.{sym, subst, length}
-use Rattle.ft_scan.specs.Homes.{PutsHomes, PutsRowHomes}
+use Rattle.ft_scan.specs.steps.Homes.{PutsHomes, PutsRowHomes}
 use Rattle.ft_scan.proofs.HomeLemmas.{all-rows}
 use Rattle.ft_scan.proofs.homes.put_table_homes.Goals as goal
 

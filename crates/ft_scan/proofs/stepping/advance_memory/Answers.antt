@@ -1,8 +1,8 @@
 use Rattle.std.proofs.Common.{◌∙◌, sym, ap, subst, refl, List, Some, arith}
 use Rattle.std.proofs.lemmas.Option.{slice_get_within, get_or_from_slice_get}
 use Rattle.ft_scan.specs.declared.frame.Running.{Running}
-use Rattle.ft_scan.specs.Frame.{view_of}
-use Rattle.ft_scan.specs.Stepping.{CanHear, Hears}
+use Rattle.ft_scan.specs.steps.Frame.{view_of}
+use Rattle.ft_scan.specs.steps.Stepping.{CanHear, Hears}
 use Rattle.ft_scan.proofs.FrameLemmas.{memory_safe, can_hear, hears_advances}
 use Rattle.ft_scan.proofs.stepping.advance_memory.Goals as goal
 

@@ -1,5 +1,5 @@
 use Rattle.std.proofs.Common.{ap, subst, sym}
-use Rattle.ft_scan.specs.Stands.{Stands, rows_at}
+use Rattle.ft_scan.specs.steps.Stands.{Stands, rows_at}
 use Rattle.ft_scan.proofs.OpeningLemmas.{stands_first}
 use Rattle.ft_scan.proofs.scanner.Scanner.open.Goals as goal
 

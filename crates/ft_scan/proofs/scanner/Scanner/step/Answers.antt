@@ -2,9 +2,9 @@ use Rattle.std.proofs.Common.{◌≡◌, ◌∙◌, sym, ap, subst, ◌∷◌, [
 use Rattle.ft_core.specs.Kinds.{count_of, given_kinds, side_kinds}
 use Rattle.ft_mean.specs.Proper.{AllProper}
 use Rattle.ft_mean.specs.Reading.{IsListOf}
-use Rattle.ft_scan.specs.Put.{ArePlacesIn, AreOnce, AreTold}
-use Rattle.ft_scan.specs.Scanning.{Scanning}
-use Rattle.ft_scan.specs.Stands.{kept_of, rows_at}
+use Rattle.ft_scan.specs.steps.Put.{ArePlacesIn, AreOnce, AreTold}
+use Rattle.ft_scan.specs.meaning.Scanning.{Scanning}
+use Rattle.ft_scan.specs.steps.Stands.{kept_of, rows_at}
 use Rattle.ft_scan.proofs.ListedLemmas.{listed_within, listed_once}
 use Rattle.ft_scan.proofs.StandsLemmas.{begun_scan, ended, GoesOnBy, goes_on}
 use Rattle.ft_scan.proofs.scanner.Scanner.step.Goals as goal

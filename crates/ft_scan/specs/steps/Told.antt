@@ -18,8 +18,8 @@ use Rattle.ft_scan.specs.declared.plan.Step.TheVariants as step
 use Rattle.ft_scan.specs.declared.frame.Frame.{Frame}
 use Rattle.ft_scan.specs.declared.frame.Running.{Running}
 use Rattle.ft_scan.specs.declared.frame.Running.TheVariants.{Timer, Band}
-use Rattle.ft_scan.specs.Frame.{IsFrameOf, IsRunOf}
-use Rattle.ft_scan.specs.Plan.{IsVector}
+use Rattle.ft_scan.specs.steps.Frame.{IsFrameOf, IsRunOf}
+use Rattle.ft_scan.specs.steps.Plan.{IsVector}
 
 -- scan n of a reading is in range, and the variables of the side follow its tables there
 pub record IsScan (S : Tables) (s : Side) (a : Reading) (n : ℕ) : Type 0 where

@@ -18,8 +18,8 @@ use Rattle.ft_scan.specs.declared.plan.Step.TheVariants as step
 use Rattle.ft_scan.specs.declared.frame.Frame.{Frame}
 use Rattle.ft_scan.specs.declared.frame.Running.{Running}
 use Rattle.ft_scan.specs.declared.frame.Running.TheVariants.{Timer, Band}
-use Rattle.ft_scan.specs.Found.{IsTableFor, IsWhole}
-use Rattle.ft_scan.specs.Plan.{IsVector}
+use Rattle.ft_scan.specs.steps.Found.{IsTableFor, IsWhole}
+use Rattle.ft_scan.specs.steps.Plan.{IsVector}
 
 -- what every name stands for in a scan under way
 abbrev pub view_of : Frame → View

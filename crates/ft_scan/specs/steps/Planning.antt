@@ -10,8 +10,8 @@ use Rattle.ft_scan.specs.declared.homes.Home.TheVariants.{Whole, Row}
 use Rattle.ft_scan.specs.declared.plan.Planned.{Planned}
 use Rattle.ft_scan.specs.declared.plan.Step.{Step}
 use Rattle.ft_scan.specs.declared.plan.Step.TheVariants as step
-use Rattle.ft_scan.specs.Homes.{IsHome}
-use Rattle.ft_scan.specs.Plan.{IsMade, CanFollow}
+use Rattle.ft_scan.specs.steps.Homes.{IsHome}
+use Rattle.ft_scan.specs.steps.Plan.{IsMade, CanFollow}
 
 -- nothing is added
 pub record Keeps (old new : Planned) : Type 0 where

@@ -12,7 +12,7 @@ use Rattle.ft_core.specs.Reads.{Read, at_now, at_before, of_memory, of_age, cond
 use Rattle.ft_core.specs.Sound.{item_reads, is_memory_of}
 use Rattle.ft_scan.specs.declared.plan.Step.{Step}
 use Rattle.ft_scan.specs.declared.plan.Step.TheVariants as step
-use Rattle.ft_scan.specs.Found.{IsTableFor, IsWhole}
+use Rattle.ft_scan.specs.steps.Found.{IsTableFor, IsWhole}
 
 -- what a step makes known of the scan
 abbrev pub Makes : Step → Read → Type 0

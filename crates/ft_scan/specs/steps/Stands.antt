@@ -10,10 +10,10 @@ use Rattle.ft_mean.specs.Reading.{Scans, IsVar, before}
 use Rattle.ft_scan.specs.declared.frame.Frame.{Frame}
 use Rattle.ft_scan.specs.declared.plan.Step.{Step}
 use Rattle.ft_scan.specs.declared.scanner.Scanner.TheInside.{Inside}
-use Rattle.ft_scan.specs.Frame.{IsFrameOf}
-use Rattle.ft_scan.specs.Plan.{IsPlan}
-use Rattle.ft_scan.specs.Scanning.{Scanning}
-use Rattle.ft_scan.specs.Told.{RunsFor}
+use Rattle.ft_scan.specs.steps.Frame.{IsFrameOf}
+use Rattle.ft_scan.specs.steps.Plan.{IsPlan}
+use Rattle.ft_scan.specs.meaning.Scanning.{Scanning}
+use Rattle.ft_scan.specs.steps.Told.{RunsFor}
 
 -- the places in the set of all variables of these kinds, in order of declaration
 pub record ArePlaces (S : Tables) (kinds : Kinds) (places : List ℕ) : Type 0 where
