@@ -15,16 +15,16 @@ use Rattle.ft_mean.specs.Value.{View}
 use Rattle.ft_scan.specs.declared.plan.Step.{Step}
 use Rattle.ft_scan.specs.declared.plan.Step.TheVariants as step
 use Rattle.ft_scan.specs.declared.frame.Frame.{Frame}
-use Rattle.ft_scan.specs.Frame.{view_of, HasColumn, HasCell, HasEntry, CanTake}
-use Rattle.ft_scan.specs.Plan.{CanFindColumn, CanFindCell, CanFindEntry, CanFollow, IsPlan}
-use Rattle.ft_scan.specs.Told.{IsScan, IsTold}
+use Rattle.ft_scan.specs.steps.Frame.{view_of, HasColumn, HasCell, HasEntry, CanTake}
+use Rattle.ft_scan.specs.steps.Plan.{CanFindColumn, CanFindCell, CanFindEntry, CanFollow, IsPlan}
+use Rattle.ft_scan.specs.steps.Told.{IsScan, IsTold}
 use Rattle.ft_scan.proofs.FoundLemmas.{vector_none}
 use Rattle.ft_scan.proofs.FrameLemmas.{of_kinds}
 use Rattle.ft_scan.proofs.ItemLemmas.{has_value}
 use Rattle.ft_scan.proofs.KnownLemmas.{truth_known, cells_known}
 use Rattle.ft_scan.proofs.TableLemmas.{grid_shaped, found_none}
 use Rattle.ft_scan.proofs.VectorLemmas.{same_columns, is_for_target, entry_there, some_or_none}
-use Rattle.ft_scan.specs.Laws.{Laws}
+use Rattle.ft_scan.specs.laws.Laws.{Laws}
 
 pub memory_there : (memories : List Memory) (s : Side) (m : ℕ) → IsTrue (is_memory_of memories s m) → (memory : Memory) × (slice_get memories m ≡ Some memory)
 memory_there memories s m = of (slice_get memories m) refl

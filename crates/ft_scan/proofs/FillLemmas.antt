@@ -13,12 +13,12 @@ use Rattle.ft_core.specs.Kinds.{Kinds, count_of, defined_kinds, is_of, place_of}
 use Rattle.ft_mean.specs.Cells.{defined}
 use Rattle.ft_mean.specs.Reading.{IsVar}
 use Rattle.ft_mean.specs.Value.{View}
-use Rattle.ft_scan.specs.Mapping.{IsFilled}
-use Rattle.ft_scan.specs.Rows.{AreValues, row_value}
+use Rattle.ft_scan.specs.steps.Mapping.{IsFilled}
+use Rattle.ft_scan.specs.steps.Rows.{AreValues, row_value}
 use Rattle.ft_scan.proofs.FrameLemmas.{of_kinds}
 use Rattle.ft_scan.proofs.ListedLemmas.{of_var}
 use Rattle.ft_scan.proofs.PlaceLemmas.{other_place}
-use Rattle.ft_scan.specs.Laws.{Laws}
+use Rattle.ft_scan.specs.laws.Laws.{Laws}
 
 module _ (L : Laws) (S : Tables) (section : Section) (V : View) where
   abbrev kinds : Kinds

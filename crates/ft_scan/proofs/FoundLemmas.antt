@@ -8,7 +8,7 @@ use Rattle.std.proofs.lemmas.Bool.{cond-true, cond-false, cases_Bool, or_left, o
 use Rattle.std.proofs.lemmas.Bool.Decides.{Decides-int_eq}
 use Rattle.std.proofs.lemmas.List.Elements.{filter-append}
 use Rattle.std.proofs.lemmas.List.Folds.{list_any-append}
-use Rattle.std.proofs.lemmas.Option.{none-some, same_Some, slice_get_cases, slice_get_within, slice_get_past}
+use Rattle.std.proofs.lemmas.Option.{none-some, same_Some, slice_get-map, get_or_from_slice_get, slice_get_cases, slice_get_within, slice_get_past}
 use Rattle.ft_core.specs.declared.tables.Grid.TheVariants.{Normal, Inverted, Vector}
 use Rattle.ft_core.specs.declared.term.Term.{Term}
 use Rattle.ft_core.specs.declared.term.Cond.{Cond}
@@ -17,7 +17,7 @@ use Rattle.ft_core.specs.Grids.{Cell, cells_for, row_cells, defines}
 use Rattle.ft_mean.specs.Value.{View, value, truth}
 use Rattle.ft_mean.specs.Cells.{cell_holds, holding}
 use Rattle.ft_scan.proofs.Ground.{mapped}
-use Rattle.ft_scan.specs.Found.{IsFirstTrue, IsFound, IsInRow, IsTrueAt}
+use Rattle.ft_scan.specs.steps.Found.{IsFirstTrue, IsFound, IsInRow, IsTrueAt}
 
 zip_parts : {A B : Type 0} (xs : List A) (ys : List B) (k : ℕ) (p : A × B) → slice_get (zip xs ys) k ≡ Some p → (slice_get xs k ≡ Some p.0) × (slice_get ys k ≡ Some p.1)
 zip_parts [] ys k p e = absurd (none-some p e)
@@ -32,15 +32,7 @@ zip_there (a ∷ xs) (b ∷ ys) zero x y e f = let i = same_Some a x e in let j 
 zip_there (a ∷ xs) (b ∷ ys) (suc k) x y e f = zip_there xs ys k x y e f
 
 pub mapped_there : {A B : Type 0} (f : A → B) (xs : List A) (k : ℕ) (x : A) → slice_get xs k ≡ Some x → slice_get (map f xs) k ≡ Some (f x)
-mapped_there f [] k x e = absurd (none-some x e)
-mapped_there f (y ∷ xs) zero x e = ap (λ z. Some (f z)) (same_Some y x e)
-mapped_there f (y ∷ xs) (suc k) x e = mapped_there f xs k x e
-
--- what is at a place of a list is what is read there with another value past its end
-there_or : {A : Type 0} (xs : List (List A)) (k : ℕ) (x : List A) → slice_get xs k ≡ Some x → slice_index_or xs k [] ≡ x
-there_or [] k x e = absurd (none-some x e)
-there_or (y ∷ xs) zero x e = same_Some y x e
-there_or (y ∷ xs) (suc k) x e = there_or xs k x e
+mapped_there f xs k x e = slice_get-map f xs k ∙ ap (option_map f) e
 
 inside : {A : Type 0} (xs : List (List A)) (k j : ℕ) (a : A) → slice_get (slice_index_or xs k []) j ≡ Some a → slice_get xs k ≡ Some (slice_index_or xs k [])
 inside [] k j a e = absurd (none-some a e)
@@ -185,7 +177,7 @@ module _ (V : View) (x : ℕ) where
   normal_none columns rows terms none = none_all (λ r. row_cells r.0 x (zip (map (λ column. r.1.0 ∷ column ∷ []) columns) r.1.1)) 0 (zip rows terms) (λ m k p e.
       let parts = zip_parts rows terms k p e in
       ⊎_elim
-      (λ holds. headed_none p.0 m x columns p.1 (subst (λ es. IsInRow V columns es None) (there_or terms k p.1 parts.1) (none k (slice_get_within rows k p.0 parts.0) p.0 parts.0 holds)))
+      (λ holds. headed_none p.0 m x columns p.1 (subst (λ es. IsInRow V columns es None) (get_or_from_slice_get terms k p.1 [] parts.1) (none k (slice_get_within rows k p.0 parts.0) p.0 parts.0 holds)))
       (λ shut. headed_shut p.0 m x columns p.1 shut)
       (cases_Bool (truth V p.0)))
 
@@ -201,7 +193,7 @@ module _ (V : View) (x : ℕ) where
   inverted_none terms rows grid none = none_all (λ r. row_cells r.0 x (zip (map (λ entry. r.1.0 ∷ entry ∷ []) r.1.1) terms)) 0 (zip rows grid) (λ m k p e.
       let parts = zip_parts rows grid k p e in
       ⊎_elim
-      (λ holds. headed_none p.0 m x p.1 terms (subst (λ cs. IsInRow V cs terms None) (there_or grid k p.1 parts.1) (none k (slice_get_within rows k p.0 parts.0) p.0 parts.0 holds)))
+      (λ holds. headed_none p.0 m x p.1 terms (subst (λ cs. IsInRow V cs terms None) (get_or_from_slice_get grid k p.1 [] parts.1) (none k (slice_get_within rows k p.0 parts.0) p.0 parts.0 holds)))
       (λ shut. headed_shut p.0 m x p.1 terms shut)
       (cases_Bool (truth V p.0)))
 
@@ -217,7 +209,7 @@ module _ (V : View) (x : ℕ) where
   vector_none columns targets terms none = none_all (λ r. row_cells r.0 r.1.0 (zip (map (λ column. column ∷ []) columns) r.1.1)) 0 (zip targets terms) (λ m k p e.
       let parts = zip_parts targets terms k p e in
       ⊎_elim
-      (λ mine. bare_none m p.0 columns p.1 (subst (λ es. IsInRow V columns es None) (there_or terms k p.1 parts.1) (none k (slice_get_within targets k p.0 parts.0) p.0 parts.0 mine)))
+      (λ mine. bare_none m p.0 columns p.1 (subst (λ es. IsInRow V columns es None) (get_or_from_slice_get terms k p.1 [] parts.1) (none k (slice_get_within targets k p.0 parts.0) p.0 parts.0 mine)))
       (λ other. row_other m p.0 0 (zip (map (λ column. column ∷ []) columns) p.1) other)
       (cases_Bool (p.0 == x)))
 

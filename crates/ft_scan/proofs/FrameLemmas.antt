@@ -22,14 +22,14 @@ use Rattle.ft_mean.specs.Value.{View, value}
 use Rattle.ft_scan.specs.declared.frame.Frame.{Frame}
 use Rattle.ft_scan.specs.declared.frame.Running.{Running}
 use Rattle.ft_scan.specs.declared.frame.Running.TheVariants.{Timer, Band}
-use Rattle.ft_scan.specs.Found.{IsFound, IsOpenColumn, IsEntry, IsWhole}
-use Rattle.ft_scan.specs.Frame.{view_of, IsFrameOf, IsRunOf, Advances, HasColumn, FindsColumn, HasCell, HasEntry, FindsEntry}
-use Rattle.ft_scan.specs.Plan.{IsVector}
+use Rattle.ft_scan.specs.steps.Found.{IsFound, IsOpenColumn, IsEntry, IsWhole}
+use Rattle.ft_scan.specs.steps.Frame.{view_of, IsFrameOf, IsRunOf, Advances, HasColumn, FindsColumn, HasCell, HasEntry, FindsEntry}
+use Rattle.ft_scan.specs.steps.Plan.{IsVector}
 use Rattle.ft_mean.specs.Safe.{KeepsSizes, IsSafe, IsSafeBy, IsSafeGrid, IsSafeMemory}
-use Rattle.ft_scan.specs.Stepping.{sample_of, CanHear, Hears}
+use Rattle.ft_scan.specs.steps.Stepping.{sample_of, CanHear, Hears}
 use Rattle.ft_scan.proofs.RowLemmas.{value_size, no_age}
 use Rattle.ft_scan.proofs.TableLemmas.{all_at, for_it, grid_safe, found_defined, found_none}
-use Rattle.ft_scan.specs.Laws.{Laws}
+use Rattle.ft_scan.specs.laws.Laws.{Laws}
 
 -- a list of numbers has 0 at each place where another of its length has nothing
 past_end : {X : Type 0} (xs : List X) (ys : List ℤ) (x : ℕ) → length ys ≡ length xs → slice_get xs x ≡ None → slice_index_or ys x (pos 0) ≡ pos 0

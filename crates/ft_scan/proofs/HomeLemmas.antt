@@ -1,4 +1,4 @@
--- What is noted table by table, and row by row, is where the tables of a section define each variable.
+-- What is put in table by table, and row by row, is where the tables of a section define each variable.
 use Rattle.std.proofs.Common.{◌≡◌, ◌∙◌, sym, ap, subst, refl, inl, inr, ℕ, suc, ◌+◌, Bool, true, false, ◌&&◌, ◌||◌, List, [], ◌∷◌, length, slice_get, slice_set, Option, Some, None, arith, ⊎_elim, true≢false}
 use Rattle.std.specs.Prelude.{IsTrue, IsFalse, ◌==◌}
 use Rattle.std.specs.List.{list_any}
@@ -16,12 +16,12 @@ use Rattle.ft_core.specs.Kinds.{defined_kinds, is_of}
 use Rattle.ft_core.specs.Grids.{defines, is_for, is_section}
 use Rattle.ft_core.specs.Places.{of-set}
 use Rattle.ft_scan.proofs.Ground.{same_section}
-use Rattle.ft_scan.specs.Homes.{IsHome, AreHomes, IsPart, Notes, NotesRows}
+use Rattle.ft_scan.specs.steps.Homes.{IsHome, AreHomes, IsPart, PutsHomes, PutsRowHomes}
 use Rattle.ft_scan.specs.declared.homes.Home.{Home}
 use Rattle.ft_scan.specs.declared.homes.Home.TheVariants.{Whole, Row}
 
 -- before the first row
-pub no-rows : (at : ℕ) (targets : List ℕ) (homes : List (Option Home)) → NotesRows at targets 0 homes homes
+pub no-rows : (at : ℕ) (targets : List ℕ) (homes : List (Option Home)) → PutsRowHomes at targets 0 homes homes
 no-rows at targets homes = record {
   long = refl;
   none = λ x is. (is, λ row below there. omega (arith, below));
@@ -29,8 +29,8 @@ no-rows at targets homes = record {
 }
 
 -- one more row
-pub one-row : (at : ℕ) (targets : List ℕ) (row target : ℕ) (old mid new : List (Option Home)) → NotesRows at targets row old mid
-    → slice_get targets row ≡ Some target → new ≡ slice_set mid target (Some (Row at row)) → NotesRows at targets (row + 1) old new
+pub one-row : (at : ℕ) (targets : List ℕ) (row target : ℕ) (old mid new : List (Option Home)) → PutsRowHomes at targets row old mid
+    → slice_get targets row ≡ Some target → new ≡ slice_set mid target (Some (Row at row)) → PutsRowHomes at targets (row + 1) old new
 one-row at targets row target old mid new so there is = record {
   long = ap length is ∙ length-set mid target (Some (Row at row)) ∙ so.long;
   none = λ x e. elim (of-set mid target (Some (Row at row)) x None (subst (λ hs. slice_get hs x ≡ Some None) is e)) [
@@ -59,7 +59,7 @@ none-any x (t ∷ targets) none = ⊎_elim
 
 -- all rows of a vector table
 pub all-rows : (at : ℕ) (columns : List Cond) (targets : List ℕ) (terms : List (List Term)) (old new : List (Option Home))
-    → NotesRows at targets (length targets) old new → Notes at (Vector columns targets terms) old new
+    → PutsRowHomes at targets (length targets) old new → PutsHomes at (Vector columns targets terms) old new
 all-rows at columns targets terms old new so = record {
   long = so.long;
   none = λ x e. let at = so.none x e in
@@ -102,7 +102,7 @@ module _ (tables : List Table) (section : Section) where
 
   -- one more table of the section
   pub one-table : (at : ℕ) (table : Table) (old new : List (Option Home)) → slice_get tables at ≡ Some table → is_section table.section section ≡ true
-      → Notes at table.grid old new → AreHomes tables section at old → AreHomes tables section (at + 1) new
+      → PutsHomes at table.grid old new → AreHomes tables section at old → AreHomes tables section (at + 1) new
   one-table at table old new there own notes so x None is = λ k t below here. ⊎_elim
       (λ less. so x None (notes.none x is).0 k t less here)
       (λ most. let same : k ≡ at = omega (arith, below, most) in

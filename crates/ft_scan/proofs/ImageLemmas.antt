@@ -11,13 +11,13 @@ use Rattle.ft_core.specs.declared.term.Term.{Term}
 use Rattle.ft_core.specs.Grids.{cells_for, defines, is_section, is_for, is_shaped}
 use Rattle.ft_mean.specs.Cells.{defined}
 use Rattle.ft_mean.specs.Value.{View, value}
-use Rattle.ft_scan.specs.Found.{IsFound, IsTrueAt, IsOpenColumn, IsEntry}
-use Rattle.ft_scan.specs.Mapping.{CanMap, IsTableOf, HasTargets, IsFilled}
+use Rattle.ft_scan.specs.steps.Found.{IsFound, IsTrueAt, IsOpenColumn, IsEntry}
+use Rattle.ft_scan.specs.steps.Mapping.{CanMap, IsTableOf, HasTargets, IsFilled}
 use Rattle.ft_scan.proofs.FillLemmas.{nothing}
 use Rattle.ft_scan.proofs.FoundLemmas.{fails, vector_none, vector_gives}
 use Rattle.ft_scan.proofs.TableLemmas.{grid_shaped, found_defined, found_none}
 use Rattle.ft_scan.proofs.VectorLemmas.{defines_target, entry_there}
-use Rattle.ft_scan.specs.Laws.{Laws}
+use Rattle.ft_scan.specs.laws.Laws.{Laws}
 
 module _ (L : Laws) (S : Tables) (section : Section) (V : View) (can : CanMap S section V) (table : Table) (is : IsTableOf S section table) where
   its : (x : ℕ) → IsTrue (defines table.grid x) → IsTrue (is_for section x table)

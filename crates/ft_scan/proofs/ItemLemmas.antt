@@ -1,9 +1,7 @@
 -- One item of a scan: where what it reads is told as the trace has it, its value or truth is the trace's.
-use Rattle.std.proofs.Common.{◌≡◌, ◌∙◌, sym, ap, subst, refl, ℕ, zero, suc, ◌-◌, ◌<◌, ◌≤◌, ℤ, pos, Bool, false, List, [], ◌∷◌, ◌++◌, length, slice_get, Some, arith, ⊎_elim}
+use Rattle.std.proofs.Common.{◌≡◌, ◌∙◌, sym, ap, subst, ℕ, suc, ◌+◌, ◌-◌, ◌<◌, ◌≤◌, ℤ, Bool, List, [], ◌∷◌, length, slice_get, Some, arith}
 use Rattle.std.specs.Prelude.{IsTrue}
 use Rattle.std.specs.List.{flat_map}
-use Rattle.std.proofs.lemmas.Bool.{cases_lt}
-use Rattle.std.proofs.lemmas.List.{length_push, get_or_push, get_or_append_left}
 use Rattle.ft_base.specs.Interval.{IsWithin}
 use Rattle.ft_core.specs.declared.tables.Tables.{Tables}
 use Rattle.ft_core.specs.declared.tables.Var.{Var}
@@ -13,7 +11,7 @@ use Rattle.ft_core.specs.declared.term.Term.{Term}
 use Rattle.ft_core.specs.declared.term.Cond.{Cond}
 use Rattle.ft_core.specs.Kinds.{defined_kinds, section_of}
 use Rattle.ft_core.specs.Grids.{cells_for}
-use Rattle.ft_core.specs.Reads.{cell_reads, cond_reads, term_reads}
+use Rattle.ft_core.specs.Reads.{cell_reads}
 use Rattle.ft_mean.specs.Cells.{defined, Follows}
 use Rattle.ft_mean.specs.Memory.{look, memory_at, at_scan, remembered}
 use Rattle.ft_mean.specs.Past.{held, hyst}
@@ -24,7 +22,8 @@ use Rattle.ft_mean.specs.EvaluationLaws.{AllSame}
 use Rattle.ft_mean.specs.TableLaws.{TableOf, OneValue}
 use Rattle.ft_memo.specs.Timer.{held_after, truth_at, ago}
 use Rattle.ft_memo.specs.Band.{hyst_after, number_at}
-use Rattle.ft_scan.specs.Laws.{Laws}
+use Rattle.ft_scan.specs.laws.Laws.{Laws}
+use Rattle.ft_scan.proofs.SinceLemmas.{held_moved, ago_moved, hyst_moved}
 
 module _ (L : Laws) (S : Tables) (proper : AllProper S) (s : Side) (a : Reading) (n : ℕ)
     (range : (j x : ℕ) (v : Var) → j ≤ n → slice_get S.vars x ≡ Some v → IsWithin v.range (a j x))
@@ -45,47 +44,42 @@ module _ (L : Laws) (S : Tables) (proper : AllProper S) (s : Side) (a : Reading)
     pub is_value : (z : ℤ) → IsTrue (defined S (section_of s) F x z) → z ≡ a n x
     is_value z found = one.only z (sym (alike z) ∙ found) ∙ sym (one.only (a n x) (follows x v is))
 
--- all scans belong to one run
-begun_none : (S : Tables) (a : Reading) (t : ℕ) → begun S a t ≡ zero
-begun_none S a zero = refl
-begun_none S a (suc t) = begun_none S a t
-
-module _ (L : Laws) (S : Tables) (a : Reading) (n m : ℕ) (F : View) where
+module _ (L : Laws) (S : Tables) (a : Reading) (n m : ℕ) where
   abbrev here : ℕ → View
   here = at_scan S a (memory_at S a)
 
-  -- a timer that was told the condition's truths up to the scan before is true now as the memory is
-  pub timer_is : (name : List ℕ) (side : Side) (c : Cond) (hold : ℤ) → slice_get S.memories m ≡ Some (Held name side c hold) → (truths : List Bool) → length truths ≡ n
-      → ((j : ℕ) → j < n → truth_at truths j ≡ truth (here j) c) → AllSame F (here n) (cond_reads c)
-      → held_after hold S.period (truths ++ truth F c ∷ []) ≡ memory_at S a m n
-  timer_is name side c hold there truths long told same =
-      let now = truth F c in
-      let last : length (truths ++ now ∷ []) - 1 ≡ n = omega (arith, length_push truths now, long) in
-      ap (λ t. held 0 (ago S.period t) hold (truth_at (truths ++ now ∷ [])) t) last
-      ∙ L.same_held 0 (ago S.period n) hold (truth_at (truths ++ now ∷ [])) (λ j. truth (here j) c) n (λ j l. ⊎_elim
-      (λ less. get_or_append_left truths (now ∷ []) false j (omega (arith, less, long)) ∙ told j less)
-      (λ most. let eq : n ≡ j = omega (arith, l, most) in
-      get_or_push truths now false j (long ∙ eq) ∙ L.same_truth F (here n) c same ∙ ap (λ i. truth (here i) c) eq)
-      (cases_lt j n))
-      ∙ ap (λ from. held from (λ j. since S a j n) hold (λ j. truth (here j) c) n) (sym (begun_none S a n))
+  -- the last scan that begins
+  abbrev from : ℕ
+  from = begun S a n
+
+  -- a timer that was told the condition's truths from there on up to this scan is true as the memory is
+  pub timer_is : (name : List ℕ) (side : Side) (c : Cond) (hold : ℤ) → slice_get S.memories m ≡ Some (Held name side c hold) → (truths : List Bool)
+      → length truths ≡ suc n - from → ((j : ℕ) → from ≤ j → j < suc n → truth_at truths (j - from) ≡ truth (here j) c)
+      → held_after hold S.period truths ≡ memory_at S a m n
+  timer_is name side c hold there truths long told =
+      let low = L.begun_low S a n in
+      let last : length truths - 1 ≡ n - from = omega (arith, long, low) in
+      ap (λ t. held 0 (ago S.period t) hold (truth_at truths) t) last
+      ∙ L.same_held 0 (ago S.period (n - from)) hold (truth_at truths) (λ j. truth (here (from + j)) c) (n - from) (λ j l.
+      let back : j ≡ (from + j) - from = omega arith in
+      ap (truth_at truths) back ∙ told (from + j) (omega arith) (omega (arith, l, low)))
+      ∙ held_moved from n low (ago S.period (n - from)) (λ j. since S a j n) (ago_moved S a from n) hold (λ j. truth (here j) c)
       ∙ sym (L.remember S a m n ∙ ap (λ o. remembered S a (memory_at S a) o n) there)
 
   -- the same of a band and its numbers
   pub band_is : (name : List ℕ) (side : Side) (e : Term) (lo hi : ℤ) (start : Bool) → slice_get S.memories m ≡ Some (Hyst name side e lo hi start) → (numbers : List ℤ)
-      → length numbers ≡ n → ((j : ℕ) → j < n → number_at numbers j ≡ value (here j) e) → AllSame F (here n) (term_reads e)
-      → hyst_after lo hi start (numbers ++ value F e ∷ []) ≡ memory_at S a m n
-  band_is name side e lo hi start there numbers long told same =
-      let now = value F e in
-      let last : length (numbers ++ now ∷ []) ≡ suc n = length_push numbers now ∙ omega (arith, long) in
-      after lo hi start (numbers ++ now ∷ []) n last
-      ∙ L.same_hyst 0 lo hi start (number_at (numbers ++ now ∷ [])) (λ j. value (here j) e) n (λ j l. ⊎_elim
-      (λ less. get_or_append_left numbers (now ∷ []) (pos 0) j (omega (arith, less, long)) ∙ told j less)
-      (λ most. let eq : n ≡ j = omega (arith, l, most) in
-      get_or_push numbers now (pos 0) j (long ∙ eq) ∙ L.same_value F (here n) e same ∙ ap (λ i. value (here i) e) eq)
-      (cases_lt j n))
-      ∙ ap (λ from. hyst from lo hi start (λ j. value (here j) e) n) (sym (begun_none S a n))
+      → length numbers ≡ suc n - from → ((j : ℕ) → from ≤ j → j < suc n → number_at numbers (j - from) ≡ value (here j) e)
+      → hyst_after lo hi start numbers ≡ memory_at S a m n
+  band_is name side e lo hi start there numbers long told =
+      let low = L.begun_low S a n in
+      let last : length numbers ≡ suc (n - from) = omega (arith, long, low) in
+      some_after lo hi start numbers (n - from) last
+      ∙ L.same_hyst 0 lo hi start (number_at numbers) (λ j. value (here (from + j)) e) (n - from) (λ j l.
+      let back : j ≡ (from + j) - from = omega arith in
+      ap (number_at numbers) back ∙ told (from + j) (omega arith) (omega (arith, l, low)))
+      ∙ (hyst_moved L) from n low lo hi start (λ j. value (here j) e)
       ∙ sym (L.remember S a m n ∙ ap (λ o. remembered S a (memory_at S a) o n) there)
     where
-      after : (lo hi : ℤ) (start : Bool) (xs : List ℤ) (k : ℕ) → length xs ≡ suc k → hyst_after lo hi start xs ≡ hyst 0 lo hi start (number_at xs) k
-      after lo hi start [] k e = absurd (omega (arith, e))
-      after lo hi start (x ∷ xs) k e = let rest : length xs ≡ k = omega (arith, e) in ap (hyst 0 lo hi start (number_at (x ∷ xs))) rest
+      some_after : (lo hi : ℤ) (start : Bool) (xs : List ℤ) (k : ℕ) → length xs ≡ suc k → hyst_after lo hi start xs ≡ hyst 0 lo hi start (number_at xs) k
+      some_after lo hi start [] k e = absurd (omega (arith, e))
+      some_after lo hi start (x ∷ xs) k e = let rest : length xs ≡ k = omega (arith, e) in ap (hyst 0 lo hi start (number_at (x ∷ xs))) rest

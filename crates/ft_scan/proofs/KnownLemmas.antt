@@ -19,11 +19,11 @@ use Rattle.ft_scan.proofs.Ground.{in_all, is_for_from}
 use Rattle.ft_scan.specs.declared.plan.Step.{Step}
 use Rattle.ft_scan.specs.declared.plan.Step.TheVariants as step
 use Rattle.ft_scan.specs.declared.frame.Frame.{Frame}
-use Rattle.ft_scan.specs.Frame.{view_of}
-use Rattle.ft_scan.specs.Plan.{Makes, IsKnown, AreKnown}
-use Rattle.ft_scan.specs.Told.{IsTold, IsRight}
+use Rattle.ft_scan.specs.steps.Frame.{view_of}
+use Rattle.ft_scan.specs.steps.Plan.{Makes, IsKnown, AreKnown}
+use Rattle.ft_scan.specs.steps.Told.{IsTold, IsRight}
 use Rattle.ft_scan.proofs.FrameLemmas.{of_kinds}
-use Rattle.ft_scan.specs.Laws.{Laws}
+use Rattle.ft_scan.specs.laws.Laws.{Laws}
 
 -- the variable or memory of a read, and whether it is a variable at this scan
 abbrev number_of : Read → ℕ

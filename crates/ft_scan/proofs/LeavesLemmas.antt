@@ -1,5 +1,5 @@
 -- What a step of a plan leaves is what the next one begins with.
-use Rattle.std.proofs.Common.{◌≡◌, ◌∙◌, sym, ap, subst, refl, ℕ, suc, ◌<◌, ℤ, pos, Bool, false, List, [], ◌∷◌, ◌++◌, length, slice_get, slice_index_or, slice_set, Some, arith, ⊎_elim}
+use Rattle.std.proofs.Common.{◌≡◌, ◌∙◌, sym, ap, subst, refl, ℕ, suc, ◌-◌, ◌<◌, ◌≤◌, ℤ, pos, Bool, false, List, [], ◌∷◌, ◌++◌, length, slice_get, slice_index_or, slice_set, Some, arith, ⊎_elim}
 use Rattle.std.specs.List.{flat_map}
 use Rattle.std.proofs.lemmas.Bool.{cases_eq, cases_lt, eq-eqb}
 use Rattle.std.proofs.lemmas.List.{length-set, length_push, get_or-set_same, get_or-set_other, get_or_push, get_or_append_left}
@@ -16,7 +16,7 @@ use Rattle.ft_core.specs.Reads.{memory_reads, cond_reads}
 use Rattle.ft_core.specs.Places.{set-here, set-there}
 use Rattle.ft_mean.specs.Memory.{at_scan, memory_at, look}
 use Rattle.ft_mean.specs.Proper.{AllProper}
-use Rattle.ft_mean.specs.Reading.{Reading}
+use Rattle.ft_mean.specs.Reading.{Reading, begun}
 use Rattle.ft_mean.specs.Value.{View, truth, value}
 use Rattle.ft_mean.specs.EvaluationLaws.{AllSame}
 use Rattle.ft_memo.specs.Timer.{held_after}
@@ -26,51 +26,57 @@ use Rattle.ft_scan.specs.declared.plan.Step.TheVariants as step
 use Rattle.ft_scan.specs.declared.frame.Frame.{Frame}
 use Rattle.ft_scan.specs.declared.frame.Running.{Running}
 use Rattle.ft_scan.specs.declared.frame.Running.TheVariants.{Timer, Band}
-use Rattle.ft_scan.specs.Frame.{view_of, IsFrameOf, IsRunOf, Advances, FindsColumn, FindsCell, FindsEntry, GoesOn, Leaves}
-use Rattle.ft_scan.specs.Plan.{CanFindColumn, CanFindCell, CanFindEntry, CanGoOn, CanFollow, IsPlan, AreKnown}
-use Rattle.ft_scan.specs.Told.{IsScan, IsTold, IsRight, WasTold, RunsFor}
+use Rattle.ft_scan.specs.steps.Frame.{view_of, IsFrameOf, IsRunOf, Advances, FindsColumn, FindsCell, FindsEntry, AdvancesMemory, Leaves}
+use Rattle.ft_scan.specs.steps.Plan.{CanFindColumn, CanFindCell, CanFindEntry, CanAdvanceMemory, CanFollow, IsPlan, AreKnown}
+use Rattle.ft_scan.specs.steps.Told.{IsScan, IsTold, IsRight, WasTold, WasToldSince, RunsFor}
 use Rattle.ft_scan.proofs.FoundLemmas.{vector_gives}
 use Rattle.ft_scan.proofs.FrameLemmas.{of_kinds}
 use Rattle.ft_scan.proofs.ItemLemmas.{is_value, timer_is, band_is}
 use Rattle.ft_scan.proofs.KnownLemmas.{truth_known, cells_known, all_here}
+use Rattle.ft_scan.proofs.SinceLemmas.{begun_stays}
 use Rattle.ft_scan.proofs.TableLemmas.{found_defined}
 use Rattle.ft_scan.proofs.VectorLemmas.{same_columns, same_targets, is_for_target}
-use Rattle.ft_scan.specs.Laws.{Laws}
+use Rattle.ft_scan.specs.laws.Laws.{Laws}
 
--- a list of what scans told has one more after a scan
-one_more_told : {X : Type 0} (xs ys : List X) (x d : X) (n : ℕ) (f : ℕ → X) → ys ≡ xs ++ x ∷ [] → length xs ≡ n → ((j : ℕ) → j < n → slice_index_or xs j d ≡ f j) → x ≡ f n
-    → (length ys ≡ suc n) × ((j : ℕ) → j < suc n → slice_index_or ys j d ≡ f j)
-one_more_told xs ys x d n f more long told last =
+-- a list of what the scans from `from` on told has one more after a scan
+one_more_told : {X : Type 0} (xs ys : List X) (x d : X) (from n : ℕ) (f : ℕ → X) → ys ≡ xs ++ x ∷ [] → from ≤ n → length xs ≡ n - from
+    → ((j : ℕ) → from ≤ j → j < n → slice_index_or xs (j - from) d ≡ f j) → x ≡ f n
+    → (length ys ≡ suc n - from) × ((j : ℕ) → from ≤ j → j < suc n → slice_index_or ys (j - from) d ≡ f j)
+one_more_told xs ys x d from n f more low long told last =
     let longer = length_push xs x in
     let whole = ap length more in (
-      omega (arith, longer, whole, long),
-      λ j below. ap (λ zs. slice_index_or zs j d) more ∙ ⊎_elim
-          (λ less. get_or_append_left xs (x ∷ []) d j (omega (arith, less, long)) ∙ told j less)
-          (λ most. let is : n ≡ j = omega (arith, below, most) in get_or_push xs x d j (long ∙ is) ∙ last ∙ ap f is)
+      omega (arith, longer, whole, long, low),
+      λ j begun below. ap (λ zs. slice_index_or zs (j - from) d) more ∙ ⊎_elim
+          (λ less. get_or_append_left xs (x ∷ []) d (j - from) (omega (arith, less, long, begun)) ∙ told j begun less)
+          (λ most. let is : n ≡ j = omega (arith, below, most) in
+          get_or_push xs x d (j - from) (long ∙ ap (λ k. k - from) is) ∙ last ∙ ap f is)
           (cases_lt j n),
     )
 
 module _ (L : Laws) where
   -- a memory that goes on is told one more scan, and says what it says in the reading
   advanced : (S : Tables) (a : Reading) (n m : ℕ) (V : View) (memory : Memory) (run next : Running) (says : Bool) → slice_get S.memories m ≡ Some memory
-      → AllSame V (at_scan S a (memory_at S a) n) (memory_reads (Some memory)) → IsRunOf S.period memory run → WasTold S a n memory run → Advances V memory run next says
+      → AllSame V (at_scan S a (memory_at S a) n) (memory_reads (Some memory)) → IsRunOf S.period memory run → WasToldSince S a (begun S a n) n memory run
+      → Advances V memory run next says
       → IsRunOf S.period memory next × WasTold S a (suc n) memory next × (says ≡ memory_at S a m n)
   advanced S a n m V (Held name s c hold) (Timer t) (Timer u) says there same is was goes =
       let hold_is = goes.0 ∙ is.0 in
       let period_is = goes.1 ∙ is.1 in
-      let list_is = goes.2 in (
+      let told = one_more_told t.truths u.truths (truth V c) false (begun S a n) n (λ j. truth (at_scan S a (memory_at S a) j) c) goes.2 (L.begun_low S a n)
+      was.0 was.1 (L.same_truth V (at_scan S a (memory_at S a) n) c same) in (
         (hold_is, period_is),
-        one_more_told t.truths u.truths (truth V c) false n (λ j. truth (at_scan S a (memory_at S a) j) c) list_is was.0 was.1 (L.same_truth V (at_scan S a (memory_at S a) n) c same),
-        goes.3 ∙ (λ i. held_after (hold_is i) (period_is i) (list_is i)) ∙ (timer_is L) S a n m V name s c hold there t.truths was.0 was.1 same,
+        told,
+        goes.3 ∙ (λ i. held_after (hold_is i) (period_is i) u.truths) ∙ (timer_is L) S a n m name s c hold there u.truths told.0 told.1,
       )
   advanced S a n m V (Hyst name s e lo hi start) (Band b) (Band u) says there same is was goes =
       let lo_is = goes.0 ∙ is.0 in
       let hi_is = goes.1 ∙ is.1 in
       let start_is = goes.2 ∙ is.2 in
-      let list_is = goes.3 in (
+      let told = one_more_told b.numbers u.numbers (value V e) (pos 0) (begun S a n) n (λ j. value (at_scan S a (memory_at S a) j) e) goes.3 (L.begun_low S a n)
+      was.0 was.1 (L.same_value V (at_scan S a (memory_at S a) n) e same) in (
         (lo_is, hi_is, start_is),
-        one_more_told b.numbers u.numbers (value V e) (pos 0) n (λ j. value (at_scan S a (memory_at S a) j) e) list_is was.0 was.1 (L.same_value V (at_scan S a (memory_at S a) n) e same),
-        goes.4 ∙ (λ i. hyst_after (lo_is i) (hi_is i) (start_is i) (list_is i)) ∙ (band_is L) S a n m V name s e lo hi start there b.numbers was.0 was.1 same,
+        told,
+        goes.4 ∙ (λ i. hyst_after (lo_is i) (hi_is i) (start_is i) u.numbers) ∙ (band_is L) S a n m name s e lo hi start there u.numbers told.0 told.1,
       )
   advanced S a n m V (Held name s c hold) (Timer t) (Band u) says there same is was goes = absurd goes
   advanced S a n m V (Held name s c hold) (Band t) next says there same is was goes = absurd is
@@ -234,14 +240,15 @@ module _ (L : Laws) (S : Tables) (proper : AllProper S) (s : Side) (steps : List
       (value_keeps x v.0 v.1 (value V finds.term) is (step.Entry x table row) (set_here x v.0 v.1 (value V finds.term) is))
 
   -- a memory goes on from what it was told
-  module _ (m : ℕ) (can : CanGoOn S s steps p m) (at : slice_get steps p ≡ Some (step.Memory m)) (next : Frame) (goes : GoesOn S m frame next) where
+  module _ (m : ℕ) (can : CanAdvanceMemory S s steps p m) (at : slice_get steps p ≡ Some (step.Memory m)) (next : Frame) (goes : AdvancesMemory S m frame next) where
     goes_right : IsRunOf S.period goes.memory goes.next × WasTold S a (suc n) goes.memory goes.next × (goes.says ≡ memory_at S a m n)
     goes_right =
         let ran = told.waits m p (omega arith) at goes.memory goes.there in
         let is = same_Some ran.0 goes.run (sym ran.1 ∙ goes.ran) in
         (advanced L) S a n m V goes.memory goes.run goes.next goes.says goes.there
         ((all_here L) S s steps a n p frame told (memory_reads (Some goes.memory)) (subst (λ o. AreKnown S s steps p (memory_reads o)) goes.there can.known))
-        (subst (IsRunOf S.period goes.memory) is ran.2) (subst (WasTold S a n goes.memory) is ran.3) goes.advances
+        (subst (IsRunOf S.period goes.memory) is ran.2)
+        (subst (λ from. WasToldSince S a from n goes.memory goes.run) ((begun_stays L) S a n) (subst (WasTold S a n goes.memory) is ran.3)) goes.advances
 
     next_run : slice_get next.runs.items m ≡ Some goes.next
     next_run = ap (λ xs. slice_get xs m) goes.runs ∙ set-here frame.runs.items m goes.next (slice_get_within frame.runs.items m goes.run goes.ran)

@@ -19,6 +19,7 @@ pub mod PlanReads
 pub mod PutLemmas
 pub mod RowLemmas
 pub mod RunLemmas
+pub mod SinceLemmas
 pub mod StandsLemmas
 pub mod TableLemmas
 pub mod VectorLemmas

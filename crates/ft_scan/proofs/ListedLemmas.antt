@@ -9,10 +9,10 @@ use Rattle.ft_core.specs.declared.tables.Var.{Var}
 use Rattle.ft_core.specs.Kinds.{Kinds, count_of, place_of, is_of}
 use Rattle.ft_core.specs.Places.{on-left, at-end, one-at}
 use Rattle.ft_mean.specs.Reading.{IsVar}
-use Rattle.ft_scan.specs.Put.{ArePlacesIn, AreOnce}
-use Rattle.ft_scan.specs.Stands.{ArePlaces}
+use Rattle.ft_scan.specs.steps.Put.{ArePlacesIn, AreOnce}
+use Rattle.ft_scan.specs.steps.Stands.{ArePlaces}
 use Rattle.ft_scan.proofs.PlaceLemmas.{next_place}
-use Rattle.ft_scan.specs.Laws.{Laws}
+use Rattle.ft_scan.specs.laws.Laws.{Laws}
 
 -- the places of those among the first n variables
 pub record AreListed (kinds : Kinds) (vars : List Var) (n : ℕ) (places : List ℕ) : Type 0 where

@@ -6,7 +6,7 @@ use Rattle.ft_base.specs.Interval.{IsWithin}
 use Rattle.ft_core.specs.declared.tables.Tables.{Tables}
 use Rattle.ft_core.specs.Kinds.{Kinds, place_of, is_of}
 use Rattle.ft_mean.specs.Reading.{Reading, Scans, IsListOf, reading_of, init_of, before}
-use Rattle.ft_scan.specs.Laws.{Laws}
+use Rattle.ft_scan.specs.laws.Laws.{Laws}
 
 -- the last scan tells what it tells alone
 pub reading_last : (S : Tables) (kinds : Kinds) (h : Scans) (g : List ℤ) (t x : ℕ) → length h ≡ t

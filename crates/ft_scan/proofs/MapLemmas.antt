@@ -18,8 +18,8 @@ use Rattle.ft_mean.specs.EvaluationLaws.{Same, AllSame}
 use Rattle.ft_mean.specs.TableLaws.{OneValue}
 use Rattle.ft_core.specs.Sound.{may_read, now_of}
 use Rattle.ft_scan.proofs.PlaceLemmas.{same_image}
-use Rattle.ft_scan.specs.Rows.{row_view, HasValues, AreValues}
-use Rattle.ft_scan.specs.Laws.{Laws}
+use Rattle.ft_scan.specs.steps.Rows.{row_view, HasValues, AreValues}
+use Rattle.ft_scan.specs.laws.Laws.{Laws}
 
 module _ (L : Laws) (S : Tables) (proper : AllProper S) (section : Section) (kinds : Kinds) (reads : (r : Read) → may_read S.vars S.memories section r ≡ true → now_of S.vars kinds r ≡ true)
     (row : List ℤ) (given : IsListOf S kinds (row ∷ [])) where

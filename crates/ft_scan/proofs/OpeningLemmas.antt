@@ -18,11 +18,11 @@ use Rattle.ft_scan.specs.declared.plan.Step.{Step}
 use Rattle.ft_scan.specs.declared.frame.Frame.{Frame}
 use Rattle.ft_scan.specs.declared.frame.Running.{Running}
 use Rattle.ft_scan.specs.declared.frame.Running.TheVariants.{Timer, Band}
-use Rattle.ft_scan.specs.Frame.{IsFrameOf, IsRunOf}
-use Rattle.ft_scan.specs.Opening.{AllStart, IsFresh, IsStart, Starts}
-use Rattle.ft_scan.specs.Plan.{IsPlan}
-use Rattle.ft_scan.specs.Stands.{Stands, ArePlaces}
-use Rattle.ft_scan.specs.Told.{WasTold}
+use Rattle.ft_scan.specs.steps.Frame.{IsFrameOf, IsRunOf}
+use Rattle.ft_scan.specs.steps.Opening.{AllStart, IsFresh, IsStart, Starts}
+use Rattle.ft_scan.specs.steps.Plan.{IsPlan}
+use Rattle.ft_scan.specs.steps.Stands.{Stands, ArePlaces}
+use Rattle.ft_scan.specs.steps.Told.{WasTold}
 
 -- one more memory
 pub all_start_more : (S : Tables) (n : ℕ) (runs : List Running) (run : Running) → length runs ≡ n → Starts S n run → AllStart S n runs
@@ -35,8 +35,8 @@ all_start_more S n runs run long starts so_far m l = ⊎_elim
 
 -- before scan 0 it was told no scan
 pub told_none : (S : Tables) (a : Reading) (period : ℤ) (memory : Memory) (run : Running) → IsRunOf period memory run → IsFresh run → WasTold S a 0 memory run
-told_none S a period (Held name s c hold) (Timer t) of fresh = (ap length fresh, λ j l. absurd (omega (arith, l)))
-told_none S a period (Hyst name s e lo hi start) (Band u) of fresh = (ap length fresh, λ j l. absurd (omega (arith, l)))
+told_none S a period (Held name s c hold) (Timer t) of fresh = (ap length fresh ∙ omega arith, λ j low l. absurd (omega (arith, l)))
+told_none S a period (Hyst name s e lo hi start) (Band u) of fresh = (ap length fresh ∙ omega arith, λ j low l. absurd (omega (arith, l)))
 told_none S a period (Held name s c hold) (Band u) of fresh = absurd of
 told_none S a period (Hyst name s e lo hi start) (Timer t) of fresh = absurd of
 
@@ -56,7 +56,7 @@ inits_at vars x v e =
     (slice_get-map (λ (u : Var). u.init) vars x ∙ ap (option_map (λ (u : Var). u.init)) e)
 
 -- before scan 0
-module _ (S : Tables) (s : Side) (steps : List Step) (given own : List ℕ) (frame : Frame) (start : IsStart S frame) where
+module _ (S : Tables) (s : Side) (steps : List Step) (given side_variables : List ℕ) (frame : Frame) (start : IsStart S frame) where
   start_frame : IsFrameOf S frame
   start_frame = record {
     now = ap length start.now ∙ length-map S.vars _;
@@ -68,9 +68,9 @@ module _ (S : Tables) (s : Side) (steps : List Step) (given own : List ℕ) (fra
     past_in_range = λ x v e. subst (λ z. IsWithin v.range z) (sym (ap (λ xs. slice_index_or xs x (pos 0)) start.past ∙ inits_at S.vars x v e)) (S.sound.inits x v e);
   }
 
-  pub stands_first : IsPlan S s steps → ArePlaces S (given_kinds s) given → ArePlaces S (side_kinds s) own
-      → Stands S (record { side = s; steps = steps; given = given; own = own; frame = frame }) [] []
-  stands_first plan given_places own_places = record {
+  pub stands_first : IsPlan S s steps → ArePlaces S (given_kinds s) given → ArePlaces S (side_kinds s) side_variables
+      → Stands S (record { side = s; steps = steps; given = given; side_variables = side_variables; frame = frame }) [] []
+  stands_first plan given_places side_places = record {
     fits = fits_none S s;
     past = λ x v is. ap (λ xs. slice_index_or xs x (pos 0)) start.past ∙ inits_at S.vars x v is.0
         ∙ sym (ap (λ o. elim o as (λ z. ℤ) [ None ↦ pos 0 | Some u ↦ u.init ]) is.0);
@@ -79,5 +79,5 @@ module _ (S : Tables) (s : Side) (steps : List Step) (given own : List ℕ) (fra
     is_frame = start_frame;
     plan = plan;
     given_places = given_places;
-    own_places = own_places;
+    side_places = side_places;
   }

@@ -15,11 +15,11 @@ use Rattle.ft_scan.specs.declared.homes.Home.TheVariants.{Whole, Row}
 use Rattle.ft_scan.specs.declared.plan.Planned.{Planned}
 use Rattle.ft_scan.specs.declared.plan.Step.{Step}
 use Rattle.ft_scan.specs.declared.plan.Step.TheVariants as step
-use Rattle.ft_scan.specs.Homes.{IsHome, IsRowHome}
-use Rattle.ft_scan.specs.Plan.{Makes, IsMade, IsKnown, CanFindColumn, CanFollow, IsPlan}
-use Rattle.ft_scan.specs.Planning.{Keeps, Adds, FirstColumn, AddsHome, AddsItem, item_of, IsRightSoFar, HasMade, IsSoFar}
+use Rattle.ft_scan.specs.steps.Homes.{IsHome, IsRowHome}
+use Rattle.ft_scan.specs.steps.Plan.{Makes, IsMade, IsKnown, CanFindColumn, CanFollow, IsPlan}
+use Rattle.ft_scan.specs.steps.Planning.{Keeps, Adds, FirstColumn, AddsHome, AddsItem, item_of, IsRightSoFar, HasMade, IsSoFar}
 use Rattle.ft_scan.proofs.PlanReads.{known-cells, known-entries, known-columns, known-memory, of-within, memory-within}
-use Rattle.ft_scan.specs.Laws.{Laws}
+use Rattle.ft_scan.specs.laws.Laws.{Laws}
 
 -- what stands in a list of steps stands at the same place in a longer one
 abbrev Begins : (steps more : List Step) → Type 0
@@ -284,11 +284,11 @@ module _ (L : Laws) (S : Tables) (s : Side) (order : List ℕ) where
       pub item-made : AddsItem S s k old new → IsNext
       item-made adds = ⊎_elim
           (λ less. let variable = adds.variable less in ⊎_elim
-          (λ own. let home = variable.own own in home-made own home.0 home.1 home.2)
+          (λ own. let home = variable.defined own in home-made own home.0 home.1 home.2)
           (λ other. passed-over (variable.other other) (λ own. true≢false (sym own ∙ other)) (λ m is own. omega (arith, less, is)))
           (cases_Bool (is_of S.vars (defined_kinds (section_of s)) k)))
           (λ past. let is : k ≡ length S.vars + (k - length S.vars) = omega (arith, past) in let memory = adds.memory (k - length S.vars) is in ⊎_elim
-          (λ own. memory-made (k - length S.vars) is own (memory.own own))
+          (λ own. memory-made (k - length S.vars) is own (memory.of_side own))
           (λ other. passed-over (memory.other other)
           (λ own. let within = of-within S.vars (defined_kinds (section_of s)) k own in omega (arith, within, past))
           (λ m same own. let one : m ≡ k - length S.vars = omega (arith, same) in

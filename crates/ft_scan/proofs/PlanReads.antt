@@ -20,12 +20,12 @@ use Rattle.ft_core.specs.Items.{item, item_read, IsScanOrder}
 use Rattle.ft_core.specs.Reads.{Read, at_now, at_before, of_memory, of_age, cond_reads, memory_reads, grid_reads, cell_reads}
 use Rattle.ft_core.specs.Sound.{side_of, is_side, is_memory_of, on_side, may_read, item_reads}
 use Rattle.ft_scan.proofs.Ground.{in_all, of_side, same_section, same_side, is_for_from}
-use Rattle.ft_scan.specs.Plan.{IsKnown, AreKnown}
-use Rattle.ft_scan.specs.Planning.{HasMade}
+use Rattle.ft_scan.specs.steps.Plan.{IsKnown, AreKnown}
+use Rattle.ft_scan.specs.steps.Planning.{HasMade}
 use Rattle.ft_scan.specs.declared.plan.Planned.{Planned}
 use Rattle.ft_scan.proofs.ColumnLemmas.{column-reads}
 use Rattle.ft_scan.proofs.TableLemmas.{all_at}
-use Rattle.ft_scan.specs.Laws.{Laws}
+use Rattle.ft_scan.specs.laws.Laws.{Laws}
 
 -- a variable that stands in a set stands at a place
 pub of-within : (vars : List Var) (kinds : Kinds) (x : ℕ) → is_of vars kinds x ≡ true → x < length vars

@@ -3,7 +3,7 @@ use Rattle.std.proofs.Common.{◌≡◌, ◌∙◌, sym, ap, subst, ℕ, ◌+◌
 use Rattle.std.proofs.lemmas.Bool.{cases_lt}
 use Rattle.std.proofs.lemmas.List.{get_or-set_other, get_or-set_same}
 use Rattle.std.proofs.lemmas.Option.{same_Some}
-use Rattle.ft_scan.specs.Put.{ArePut, AreOnce}
+use Rattle.ft_scan.specs.steps.Put.{ArePut, AreOnce}
 
 pub put_more : (places : List ℕ) (values old : List ℤ) → AreOnce places → (n p : ℕ) (row : List ℤ) (z : ℤ) → slice_get places n ≡ Some p → p < length row
     → z ≡ slice_index_or values n (pos 0) → ArePut places values n old row → ArePut places values (n + 1) old (slice_set row p z)

@@ -21,9 +21,9 @@ use Rattle.ft_mean.specs.Reading.{IsListOf, reading_of, init_of}
 use Rattle.ft_mean.specs.Memory.{look}
 use Rattle.ft_mean.specs.EvaluationLaws.{Same}
 use Rattle.ft_scan.proofs.Ground.{from_one}
-use Rattle.ft_scan.specs.Rows.{row_view}
+use Rattle.ft_scan.specs.steps.Rows.{row_view}
 use Rattle.ft_mean.specs.Safe.{KeepsSizes, AreSafeConds}
-use Rattle.ft_scan.specs.Laws.{Laws}
+use Rattle.ft_scan.specs.laws.Laws.{Laws}
 
 within_size : (range : ℤ × ℤ) (z : ℤ) → IsWithin range z → unsigned_abs z ≤ max 1 (max (unsigned_abs range.0) (unsigned_abs range.1))
 within_size range z h = grind (arith, ints, h.0, h.1)

@@ -16,15 +16,16 @@ use Rattle.ft_mean.specs.Reading.{Reading, Scans, IsListOf, IsVar, reading_of, b
 use Rattle.ft_scan.specs.declared.plan.Step.{Step}
 use Rattle.ft_scan.specs.declared.plan.Step.TheVariants as step
 use Rattle.ft_scan.specs.declared.frame.Frame.{Frame}
-use Rattle.ft_scan.specs.Plan.{Makes}
-use Rattle.ft_scan.specs.Passing.{passed}
-use Rattle.ft_scan.specs.Put.{ArePut, AreTold}
-use Rattle.ft_scan.specs.Stands.{Kept, Stands, rows_at}
-use Rattle.ft_scan.specs.Told.{IsScan, IsTold, IsRight, RunsFor}
+use Rattle.ft_scan.specs.steps.Plan.{Makes}
+use Rattle.ft_scan.specs.steps.Passing.{passed}
+use Rattle.ft_scan.specs.steps.Put.{ArePut, AreTold}
+use Rattle.ft_scan.specs.steps.Stands.{Kept, Stands, rows_at}
+use Rattle.ft_scan.specs.steps.Told.{IsScan, IsTold, IsRight, RunsFor}
 use Rattle.ft_scan.proofs.ListedLemmas.{listed, listed_at, of_var}
 use Rattle.ft_scan.proofs.LongerLemmas.{reading_last, list_longer, before_alike}
 use Rattle.ft_scan.proofs.RunLemmas.{runs_alike}
-use Rattle.ft_scan.specs.Laws.{Laws}
+use Rattle.ft_scan.proofs.SinceLemmas.{before_next}
+use Rattle.ft_scan.specs.laws.Laws.{Laws}
 
 -- where the values are those at some places of a row, the row has them there
 pub row_is : (row : List ℤ) (places : List ℕ) (values : List ℤ) → length values ≡ length places
@@ -48,8 +49,8 @@ rows_at-push places (scan ∷ scans) row values is = ap (λ rest. map (λ p. sli
 -- and stands for one scan more
 pub record GoesOnBy (S : Tables) (sc : Kept) (past : List (List ℤ)) (given values : List ℤ) (next : Frame) (told : List (List ℤ)) : Type 0 where
   pub given_is : rows_at sc.given told ≡ rows_at sc.given past ++ given ∷ []
-  pub rows_are : rows_at sc.own told ≡ rows_at sc.own past ++ values ∷ []
-  pub stands : Stands S (record { side = sc.side; steps = sc.steps; given = sc.given; own = sc.own; frame = next }) (rows_at sc.given told) (rows_at sc.own told)
+  pub rows_are : rows_at sc.side_variables told ≡ rows_at sc.side_variables past ++ values ∷ []
+  pub stands : Stands S (record { side = sc.side; steps = sc.steps; given = sc.given; side_variables = sc.side_variables; frame = next }) (rows_at sc.given told) (rows_at sc.side_variables told)
 
 module _ (L : Laws) (S : Tables) (proper : AllProper S) (sc : Kept) (earlier rows : Scans) (given : List ℤ) (stands : Stands S sc earlier rows)
     (in_range : IsListOf S (given_kinds sc.side) (given ∷ [])) where
@@ -168,32 +169,32 @@ module _ (L : Laws) (S : Tables) (proper : AllProper S) (sc : Kept) (earlier row
         sym (told.given p at.0 at.1 ∙ fits.same_given n p at.0 (omega (arith, long)) at.1 ∙ reading_last S (given_kinds sc.side) earlier given n p (sym stands.fits.lengths)
         ∙ L.at_place S (given_kinds sc.side) (given ∷ []) 0 p at.0 at.1 ∙ ap (λ j. slice_index_or given j (pos 0)) at.2))
 
-    module _ (values : List ℤ) (width : length values ≡ count_of (side_kinds sc.side) S.vars) (out : AreTold sc.own frame.now (length sc.own) values) where
+    module _ (values : List ℤ) (width : length values ≡ count_of (side_kinds sc.side) S.vars) (out : AreTold sc.side_variables frame.now (length sc.side_variables) values) where
       -- so what is told is the trace's row
       same_row : row ≡ values
       same_row = L.same_rows S (side_kinds sc.side) row values
           (ap length (sym (get_or_push rows row [] n refl)) ∙ fits.values.widths n (omega (arith, long)))
           width
-          (λ x v is. let at = (listed L) S (side_kinds sc.side) sc.own stands.own_places x v is in
+          (λ x v is. let at = (listed L) S (side_kinds sc.side) sc.side_variables stands.side_places x v is in
           sym (L.at_place S (side_kinds sc.side) (row ∷ []) 0 x v is)
           ∙ sym (reading_last S (side_kinds sc.side) rows row n x refl)
           ∙ sym (known x v is)
-          ∙ sym (out (place_of (side_kinds sc.side) S.vars x) x (slice_get_within sc.own (place_of (side_kinds sc.side) S.vars x) x at) at))
+          ∙ sym (out (place_of (side_kinds sc.side) S.vars x) x (slice_get_within sc.side_variables (place_of (side_kinds sc.side) S.vars x) x at) at))
 
       -- it stands at the places of the side's variables
-      pub told_row : map (λ p. slice_index_or frame.now p (pos 0)) sc.own ≡ values
-      told_row = row_is frame.now sc.own values (width ∙ sym stands.own_places.count) out
+      pub told_row : map (λ p. slice_index_or frame.now p (pos 0)) sc.side_variables ≡ values
+      told_row = row_is frame.now sc.side_variables values (width ∙ sym stands.side_places.count) out
 
       -- once the values have become those of the scan before, it stands for one scan more
       pub stands_longer : (next : Frame) → next ≡ passed frame
-          → Stands S (record { side = sc.side; steps = sc.steps; given = sc.given; own = sc.own; frame = next }) (earlier ++ given ∷ []) (rows ++ values ∷ [])
+          → Stands S (record { side = sc.side; steps = sc.steps; given = sc.given; side_variables = sc.side_variables; frame = next }) (earlier ++ given ∷ []) (rows ++ values ∷ [])
       stands_longer next is =
           let more : suc n ≡ length (rows ++ row ∷ []) = omega (arith, long) in
-          subst (λ f. Stands S (record { side = sc.side; steps = sc.steps; given = sc.given; own = sc.own; frame = f }) (earlier ++ given ∷ []) (rows ++ values ∷ [])) (sym is)
-          (subst (λ z. Stands S (record { side = sc.side; steps = sc.steps; given = sc.given; own = sc.own; frame = passed frame }) (earlier ++ given ∷ []) (rows ++ z ∷ [])) same_row
+          subst (λ f. Stands S (record { side = sc.side; steps = sc.steps; given = sc.given; side_variables = sc.side_variables; frame = f }) (earlier ++ given ∷ []) (rows ++ values ∷ [])) (sym is)
+          (subst (λ z. Stands S (record { side = sc.side; steps = sc.steps; given = sc.given; side_variables = sc.side_variables; frame = passed frame }) (earlier ++ given ∷ []) (rows ++ z ∷ [])) same_row
           (record {
             fits = fits;
-            past = λ x v of. known x v of ∙ ap (λ k. before S a k x) more;
+            past = λ x v of. known x v of ∙ sym (before_next S a n x) ∙ ap (λ k. before S a k x) more;
             runs = λ m of. subst (λ k. RunsFor S a k m frame) more (told_run m of);
             is_frame = record {
               now = told.is_frame.past;
@@ -206,26 +207,26 @@ module _ (L : Laws) (S : Tables) (proper : AllProper S) (sc : Kept) (earlier row
             };
             plan = stands.plan;
             given_places = stands.given_places;
-            own_places = stands.own_places;
+            side_places = stands.side_places;
           }))
 
-module _ (L : Laws) (S : Tables) (proper : AllProper S) (sc : Kept) (past : List (List ℤ)) (given : List ℤ) (stands : Stands S sc (rows_at sc.given past) (rows_at sc.own past))
+module _ (L : Laws) (S : Tables) (proper : AllProper S) (sc : Kept) (past : List (List ℤ)) (given : List ℤ) (stands : Stands S sc (rows_at sc.given past) (rows_at sc.side_variables past))
     (in_range : IsListOf S (given_kinds sc.side) (given ∷ []))
-    (frame : Frame) (told : IsTold S sc.side sc.steps (a L S proper sc (rows_at sc.given past) (rows_at sc.own past) given stands in_range)
-    (n L S proper sc (rows_at sc.given past) (rows_at sc.own past) given stands in_range) (length sc.steps) frame)
-    (values : List ℤ) (width : length values ≡ count_of (side_kinds sc.side) S.vars) (out : AreTold sc.own frame.now (length sc.own) values) where
+    (frame : Frame) (told : IsTold S sc.side sc.steps (a L S proper sc (rows_at sc.given past) (rows_at sc.side_variables past) given stands in_range)
+    (n L S proper sc (rows_at sc.given past) (rows_at sc.side_variables past) given stands in_range) (length sc.steps) frame)
+    (values : List ℤ) (width : length values ≡ count_of (side_kinds sc.side) S.vars) (out : AreTold sc.side_variables frame.now (length sc.side_variables) values) where
   pub goes_on : (next : Frame) → next ≡ passed frame → (scans : List (List ℤ)) → scans ≡ past ++ next.past ∷ [] → GoesOnBy S sc past given values next scans
   goes_on next is scans are =
       let now : next.past ≡ frame.now = ap (λ (f : Frame). f.past) is in
       let all : scans ≡ past ++ frame.now ∷ [] = are ∙ ap (λ row. past ++ row ∷ []) now in
       let given_is : rows_at sc.given scans ≡ rows_at sc.given past ++ given ∷ [] = ap (rows_at sc.given) all
-      ∙ rows_at-push sc.given past frame.now given ((given_row L) S proper sc (rows_at sc.given past) (rows_at sc.own past) given stands in_range frame told) in
-      let rows_are : rows_at sc.own scans ≡ rows_at sc.own past ++ values ∷ [] = ap (rows_at sc.own) all
-      ∙ rows_at-push sc.own past frame.now values ((told_row L) S proper sc (rows_at sc.given past) (rows_at sc.own past) given stands in_range frame told values width out) in
+      ∙ rows_at-push sc.given past frame.now given ((given_row L) S proper sc (rows_at sc.given past) (rows_at sc.side_variables past) given stands in_range frame told) in
+      let rows_are : rows_at sc.side_variables scans ≡ rows_at sc.side_variables past ++ values ∷ [] = ap (rows_at sc.side_variables) all
+      ∙ rows_at-push sc.side_variables past frame.now values ((told_row L) S proper sc (rows_at sc.given past) (rows_at sc.side_variables past) given stands in_range frame told values width out) in
       record {
         given_is = given_is;
         rows_are = rows_are;
-        stands = subst (λ h. Stands S (record { side = sc.side; steps = sc.steps; given = sc.given; own = sc.own; frame = next }) h (rows_at sc.own scans)) (sym given_is)
-            (subst (Stands S (record { side = sc.side; steps = sc.steps; given = sc.given; own = sc.own; frame = next }) (rows_at sc.given past ++ given ∷ [])) (sym rows_are)
-            ((stands_longer L) S proper sc (rows_at sc.given past) (rows_at sc.own past) given stands in_range frame told values width out next is));
+        stands = subst (λ h. Stands S (record { side = sc.side; steps = sc.steps; given = sc.given; side_variables = sc.side_variables; frame = next }) h (rows_at sc.side_variables scans)) (sym given_is)
+            (subst (Stands S (record { side = sc.side; steps = sc.steps; given = sc.given; side_variables = sc.side_variables; frame = next }) (rows_at sc.given past ++ given ∷ [])) (sym rows_are)
+            ((stands_longer L) S proper sc (rows_at sc.given past) (rows_at sc.side_variables past) given stands in_range frame told values width out next is));
       }

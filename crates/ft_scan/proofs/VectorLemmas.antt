@@ -17,8 +17,8 @@ use Rattle.ft_core.specs.Kinds.{section_of}
 use Rattle.ft_core.specs.Places.{some-at}
 use Rattle.ft_mean.specs.Value.{View, truth}
 use Rattle.ft_scan.proofs.Ground.{is_for_from}
-use Rattle.ft_scan.specs.Found.{IsFirstTrue, IsTrueAt, IsOpenColumn}
-use Rattle.ft_scan.specs.Plan.{IsVector}
+use Rattle.ft_scan.specs.steps.Found.{IsFirstTrue, IsTrueAt, IsOpenColumn}
+use Rattle.ft_scan.specs.steps.Plan.{IsVector}
 use Rattle.ft_scan.proofs.TableLemmas.{all_at}
 
 abbrev columns_of : Grid → List Cond

@@ -6,7 +6,7 @@ ghost use Rattle.ft_mean.specs.Allowed.{nat_at};
 ghost use Rattle.ft_mean.specs.Reading.{IsListOf, reading_of};
 ghost use Rattle.ft_mean.specs.Safe.{AreSafeConds};
 ghost use Rattle.ft_mean.specs.Value.{truth};
-ghost use Rattle.ft_scan.specs.Allowing.{nat_after};
+ghost use Rattle.ft_scan.specs.meaning.Allowing.{nat_after};
 
 use crate::law::laws;
 use crate::rows::Rows;

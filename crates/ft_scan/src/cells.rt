@@ -5,7 +5,7 @@ ghost use Rattle.ft_core.specs.declared.term.Term.{Term};
 ghost use Rattle.ft_core.specs.Grids.{cells_for, defines};
 ghost use Rattle.ft_mean.specs.Safe.{IsSafeCond, IsSafeGrid, AreSafe, AreSafeConds, AreSafeCondRows, AreSafeRows};
 ghost use Rattle.ft_mean.specs.Value.{value};
-ghost use Rattle.ft_scan.specs.Found.{IsFirstTrue, IsTrueAt, IsEntry, IsFound, IsInHeadedRow, IsInRow, IsOpenColumn, IsWhole};
+ghost use Rattle.ft_scan.specs.steps.Found.{IsFirstTrue, IsTrueAt, IsEntry, IsFound, IsInHeadedRow, IsInRow, IsOpenColumn, IsWhole};
 
 use ft_base::List;
 use ft_core::{Cond, Grid, Term};

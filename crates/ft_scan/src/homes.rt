@@ -1,5 +1,5 @@
 ghost use Rattle.std.specs.Prelude.{◌≡◌, ◌≤◌, ℕ, length, slice_set, Some, IfOk};
-ghost use Rattle.ft_scan.specs.Homes.{AreHomes, Notes, NotesRows};
+ghost use Rattle.ft_scan.specs.steps.Homes.{AreHomes, PutsHomes, PutsRowHomes};
 
 use ft_base::{List, NoMemory};
 use ft_core::{Grid, Section, Table};
@@ -14,8 +14,8 @@ pub(crate) enum Home {
     Row { table: u32, row: usize },
 }
 
-/// Notes where a variable is defined. A place past the last variable is passed over.
-fn note(homes: &mut List<Option<Home>>, variable: u32, home: Home)
+/// Puts where a variable is defined at its place. A place past the last variable is passed over.
+fn put_home(homes: &mut List<Option<Home>>, variable: u32, home: Home)
     ensures { homes.new ≡ slice_set homes.old variable (Some home) }
 {
     if (variable as usize) < homes.len() {
@@ -23,23 +23,23 @@ fn note(homes: &mut List<Option<Home>>, variable: u32, home: Home)
     }
 }
 
-/// Notes which variables the rows of a vector table define.
-fn note_rows(homes: &mut List<Option<Home>>, table: u32, targets: &[u32])
-    ensures { NotesRows table targets.now (length targets.now) homes.old homes.new }
+/// Puts the homes of the variables that the rows of a vector table define.
+fn put_row_homes(homes: &mut List<Option<Home>>, table: u32, targets: &[u32])
+    ensures { PutsRowHomes table targets.now (length targets.now) homes.old homes.new }
 {
     'rows: for (row, target) in targets.iter().enumerate() {
-        note(homes, *target, Home::Row { table, row });
+        put_home(homes, *target, Home::Row { table, row });
     }
 }
 
-/// Notes which variables a table defines.
-fn note_table(homes: &mut List<Option<Home>>, table: u32, grid: &Grid)
-    ensures { Notes table grid.now homes.old homes.new }
+/// Puts the homes of the variables that a table defines.
+fn put_table_homes(homes: &mut List<Option<Home>>, table: u32, grid: &Grid)
+    ensures { PutsHomes table grid.now homes.old homes.new }
 {
     match grid {
-        Grid::Normal { target, .. } => note(homes, *target, Home::Whole { table }),
-        Grid::Inverted { target, .. } => note(homes, *target, Home::Whole { table }),
-        Grid::Vector { targets, .. } => note_rows(homes, table, targets.as_slice()),
+        Grid::Normal { target, .. } => put_home(homes, *target, Home::Whole { table }),
+        Grid::Inverted { target, .. } => put_home(homes, *target, Home::Whole { table }),
+        Grid::Vector { targets, .. } => put_row_homes(homes, table, targets.as_slice()),
     }
 }
 
@@ -57,7 +57,7 @@ pub(crate) fn homes(
     let mut homes = List::from_vec(Vec::from_elem(alloc, None, variables)?);
     'tables: for (at, table) in tables.iter().enumerate() {
         if table.section.is(section) {
-            note_table(&mut homes, at as u32, &table.grid);
+            put_table_homes(&mut homes, at as u32, &table.grid);
         }
     }
     Ok(homes)

@@ -1,7 +1,7 @@
-ghost use Rattle.ft_scan.specs.Laws.{Laws};
+ghost use Rattle.ft_scan.specs.laws.Laws.{Laws};
 
 use ft_mean::{
-    evaluation_laws, look_laws, memory_laws, past_laws, row_laws, table_laws, trace_laws,
+    evaluation_laws, look_laws, memory_laws, past_laws, row_laws, table_laws, time_laws, trace_laws,
 };
 
 /// What the proofs of this crate need of the definitions of the crates below.
@@ -12,6 +12,7 @@ pub(crate) fn laws()
     memory_laws();
     look_laws();
     past_laws();
+    time_laws();
     row_laws();
     table_laws();
     trace_laws();

@@ -6,9 +6,9 @@ ghost use Rattle.ft_core.specs.Kinds.{monitored, inputs, outputs, controlled, co
 ghost use Rattle.ft_mean.specs.Fits.{InputMap, Maps};
 ghost use Rattle.ft_mean.specs.Proper.{AllProper};
 ghost use Rattle.ft_mean.specs.Reading.{IsListOf};
-ghost use Rattle.ft_scan.specs.Found.{IsWhole};
-ghost use Rattle.ft_scan.specs.Mapping.{CanMap, IsTableOf, HasTargets, IsFilled};
-ghost use Rattle.ft_scan.specs.Rows.{AreValues};
+ghost use Rattle.ft_scan.specs.steps.Found.{IsWhole};
+ghost use Rattle.ft_scan.specs.steps.Mapping.{CanMap, IsTableOf, HasTargets, IsFilled};
+ghost use Rattle.ft_scan.specs.steps.Rows.{AreValues};
 
 use crate::cells::{entry_value, open_column, value_in};
 use crate::law::laws;

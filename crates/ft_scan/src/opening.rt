@@ -1,5 +1,5 @@
 ghost use Rattle.std.specs.Prelude.{◌≡◌, ◌<◌, length, map, IfOk};
-ghost use Rattle.ft_scan.specs.Opening.{AllStart, IsStart, Starts};
+ghost use Rattle.ft_scan.specs.steps.Opening.{AllStart, IsStart, Starts};
 
 use crate::frame::{Frame, Running};
 use ft_base::{List, NoMemory};

@@ -1,7 +1,7 @@
 ghost use Rattle.std.specs.Prelude.{◌≡◌, length, IfOk};
 ghost use Rattle.ft_mean.specs.Part.{kinds_of};
-ghost use Rattle.ft_scan.specs.Put.{ArePut, ArePlacesIn, AreOnce, AreTold};
-ghost use Rattle.ft_scan.specs.Stands.{ArePlaces};
+ghost use Rattle.ft_scan.specs.steps.Put.{ArePut, ArePlacesIn, AreOnce, AreTold};
+ghost use Rattle.ft_scan.specs.steps.Stands.{ArePlaces};
 
 use ft_base::{List, NoMemory};
 use ft_core::Tables;

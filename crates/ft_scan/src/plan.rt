@@ -2,9 +2,9 @@ ghost use Rattle.std.specs.Prelude.{◌≡◌, ◌<◌, ℕ, [], false, replicat
 ghost use Rattle.ft_core.specs.Items.{IsScanOrder};
 ghost use Rattle.ft_core.specs.Kinds.{defined_kinds, section_of, is_of};
 ghost use Rattle.ft_core.specs.Sound.{is_side, is_memory_of};
-ghost use Rattle.ft_scan.specs.Homes.{AreHomes, IsHome};
-ghost use Rattle.ft_scan.specs.Plan.{IsPlan};
-ghost use Rattle.ft_scan.specs.Planning.{Adds, AddsColumn, AddsEntry, AddsHome, AddsItem, AddsMemory, AddsVariable};
+ghost use Rattle.ft_scan.specs.steps.Homes.{AreHomes, IsHome};
+ghost use Rattle.ft_scan.specs.steps.Plan.{IsPlan};
+ghost use Rattle.ft_scan.specs.steps.Planning.{Adds, AddsColumn, AddsEntry, AddsHome, AddsItem, AddsMemory, AddsVariable};
 ghost use Rattle.ft_scan.specs.declared.homes.Home.TheVariants.{Row};
 
 use crate::homes::{Home, homes};

@@ -1,13 +1,13 @@
 ghost use Rattle.std.specs.Prelude.{◌≡◌, ◌∷◌, []};
 ghost use Rattle.ft_core.specs.Kinds.{of_kind};
 ghost use Rattle.ft_mean.specs.Reading.{reading_of};
-ghost use Rattle.ft_scan.specs.Rows.{row_view};
+ghost use Rattle.ft_scan.specs.steps.Rows.{row_view};
 
 use ft_core::{Tables, VarKind, kind_place};
 use ft_mean::Look;
 
 /// What a row of the variables of a kind tells of a variable: one of another kind is at its `init`.
-fn told(tables: &Tables, kind: VarKind, row: &[i64], variable: u32) -> i64
+fn value_in_row(tables: &Tables, kind: VarKind, row: &[i64], variable: u32) -> i64
     ensures { result ≡ reading_of tables.now (of_kind kind) (row.now ∷ []) 0 variable }
 {
     match tables.vars.as_slice().get(variable as usize) {
@@ -35,14 +35,14 @@ impl<'a> Look for Rows<'a> {
     ghost view = { λ rows. row_view rows.tables.now (of_kind rows.kind) rows.row.now rows.earlier.now rows.begins };
 
     fn now_of(&self, variable: u32) -> i64 {
-        told(self.tables, self.kind, self.row, variable)
+        value_in_row(self.tables, self.kind, self.row, variable)
     }
 
     fn before_of(&self, variable: u32) -> i64 {
         if self.begins {
             self.tables.init_of(variable as usize)
         } else {
-            told(self.tables, self.kind, self.earlier, variable)
+            value_in_row(self.tables, self.kind, self.earlier, variable)
         }
     }
 

@@ -3,7 +3,7 @@ ghost use Rattle.ft_core.specs.Kinds.{count_of, given_kinds, side_kinds};
 ghost use Rattle.ft_mean.specs.Fits.{Fits};
 ghost use Rattle.ft_mean.specs.Proper.{AllProper};
 ghost use Rattle.ft_mean.specs.Reading.{IsListOf};
-ghost use Rattle.ft_scan.specs.Passing.{passed};
+ghost use Rattle.ft_scan.specs.steps.Passing.{passed};
 
 use crate::frame::Frame;
 use crate::law::laws;
@@ -28,14 +28,14 @@ pub struct Scanner<'t> {
     steps: List<Step>,
     /// The places in the set of the variables that are given, and of all variables of the side, in order of declaration.
     given: List<u32>,
-    own: List<u32>,
+    side_variables: List<u32>,
     frame: Frame,
     /// The values of each scan, by their places in the set.
     past: Told<List<i64>>,
 }
 
 impl<'t> Model for Scanner<'t> {
-    ghost use Rattle.ft_scan.specs.Scanning.{Scanning};
+    ghost use Rattle.ft_scan.specs.meaning.Scanning.{Scanning};
     ghost use Rattle.std.specs.Coded.{codes};
     ghost use Rattle.ft_core.specs.contracts.tables.Tables as checked_set;
 
@@ -43,7 +43,7 @@ impl<'t> Model for Scanner<'t> {
 
     ghost coded = { Prim.hlevel (codes, checked_set.the_row.coded) };
 
-    ghost use Rattle.ft_scan.specs.Stands.{scanning, IsRunning};
+    ghost use Rattle.ft_scan.specs.steps.Stands.{scanning, IsRunning};
 
     ghost view = { scanning };
 
@@ -71,7 +71,7 @@ impl<'t> Scanner<'t> {
             side,
             steps: plan(alloc, tables, side, order.as_slice())?,
             given: part_places(alloc, tables, Part::Given(side))?,
-            own: part_places(alloc, tables, Part::Whole(side))?,
+            side_variables: part_places(alloc, tables, Part::Whole(side))?,
             frame: first_frame(alloc, tables)?,
             past: Told::new(),
         })
@@ -105,7 +105,11 @@ impl<'t> Scanner<'t> {
             self.steps.as_slice(),
             &mut self.frame,
         );
-        tell_values(self.own.as_slice(), self.frame.now.as_slice(), values);
+        tell_values(
+            self.side_variables.as_slice(),
+            self.frame.now.as_slice(),
+            values,
+        );
         end_scan(&mut self.frame);
         self.past = self.past.with(&self.frame.past);
     }

@@ -6,10 +6,10 @@ ghost use Rattle.ft_mean.specs.Cells.{defined};
 ghost use Rattle.ft_mean.specs.Proper.{AllProper};
 ghost use Rattle.ft_mean.specs.Reading.{Reading};
 ghost use Rattle.ft_mean.specs.Safe.{KeepsSizes, IsSafeMemory};
-ghost use Rattle.ft_scan.specs.Frame.{view_of, IsFrameOf, CanTake, Leaves, HasColumn, FindsColumn, HasCell, FindsCell, HasEntry, FindsEntry, GoesOn};
-ghost use Rattle.ft_scan.specs.Plan.{IsPlan};
-ghost use Rattle.ft_scan.specs.Stepping.{sample_of, CanHear, Hears};
-ghost use Rattle.ft_scan.specs.Told.{IsScan, IsTold};
+ghost use Rattle.ft_scan.specs.steps.Frame.{view_of, IsFrameOf, CanTake, Leaves, HasColumn, FindsColumn, HasCell, FindsCell, HasEntry, FindsEntry, AdvancesMemory};
+ghost use Rattle.ft_scan.specs.steps.Plan.{IsPlan};
+ghost use Rattle.ft_scan.specs.steps.Stepping.{sample_of, CanHear, Hears};
+ghost use Rattle.ft_scan.specs.steps.Told.{IsScan, IsTold};
 
 use crate::cells::{entry_value, open_column, value_in};
 use crate::frame::{Frame, Running};
@@ -130,11 +130,11 @@ fn put_truth(truths: &mut List<bool>, memory: usize, truth: bool)
     truths.set(memory, truth);
 }
 
-/// Lets a memory go on by one scan.
-fn go_on(tables: &Tables, memory: usize, frame: &mut Frame)
+/// Advances a memory by one scan.
+fn advance_memory(tables: &Tables, memory: usize, frame: &mut Frame)
     requires frame { IsFrameOf tables.now frame.old }
     requires memory { memory < length tables.now.memories }
-    ensures { GoesOn tables.now memory frame.old frame.new }
+    ensures { AdvancesMemory tables.now memory frame.old frame.new }
 {
     let sample = sample_of(tables.memories.get(memory), frame);
     let truth = advance(&mut frame.runs[memory], sample);
@@ -157,7 +157,7 @@ fn run_step(tables: &Tables, side: Side, step: Step, frame: &mut Frame)
             table,
             row,
         } => find_entry(tables, variable as usize, table as usize, row, frame),
-        Step::Memory { memory } => go_on(tables, memory as usize, frame),
+        Step::Memory { memory } => advance_memory(tables, memory as usize, frame),
     }
 }
 

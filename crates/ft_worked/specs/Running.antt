@@ -1,7 +1,7 @@
 -- Scanners of the mixer.
 use Rattle.std.specs.Prelude.{◌≡◌}
 use Rattle.ft_core.specs.declared.tables.Side.{Side}
-use Rattle.ft_scan.specs.Scanning.{Scanning}
+use Rattle.ft_scan.specs.meaning.Scanning.{Scanning}
 use Rattle.ft_worked.specs.Made.{IsMadeOf}
 use Rattle.ft_worked.specs.Mixer.{mixer}
 

@@ -1,6 +1,6 @@
 use Rattle.std.proofs.Common.{sym, subst, [], true, true≢false}
 use Rattle.ft_core.specs.Kinds.{monitored}
-use Rattle.ft_scan.specs.Rows.{row_view}
+use Rattle.ft_scan.specs.steps.Rows.{row_view}
 use Rattle.ft_mean.specs.Safe.{AreSafeConds}
 use Rattle.ft_scan.proofs.RowLemmas.{safe_first, safe_always}
 use Rattle.ft_scan.proofs.allowing.may_begin.Goals as goal

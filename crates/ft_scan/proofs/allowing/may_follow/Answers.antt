@@ -1,6 +1,6 @@
 use Rattle.std.proofs.Common.{sym, subst, false}
 use Rattle.ft_core.specs.Kinds.{monitored}
-use Rattle.ft_scan.specs.Rows.{row_view}
+use Rattle.ft_scan.specs.steps.Rows.{row_view}
 use Rattle.ft_mean.specs.Safe.{AreSafeConds}
 use Rattle.ft_scan.proofs.RowLemmas.{safe_step, safe_always}
 use Rattle.ft_scan.proofs.allowing.may_follow.Goals as goal

@@ -1,5 +1,5 @@
 use Rattle.std.proofs.Common.{sym, subst}
-use Rattle.ft_scan.specs.Found.{IsInRow}
+use Rattle.ft_scan.specs.steps.Found.{IsInRow}
 use Rattle.ft_scan.proofs.FoundLemmas.{fails, in_row_at}
 use Rattle.ft_scan.proofs.cells.in_row.Goals as goal
 

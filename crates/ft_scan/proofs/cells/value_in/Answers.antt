@@ -1,5 +1,5 @@
 use Rattle.std.proofs.Common.{subst}
-use Rattle.ft_scan.specs.Found.{IsWhole}
+use Rattle.ft_scan.specs.steps.Found.{IsWhole}
 use Rattle.ft_scan.proofs.FoundLemmas.{in_normal_table, in_inverted_table}
 use Rattle.ft_scan.proofs.cells.value_in.Goals as goal
 

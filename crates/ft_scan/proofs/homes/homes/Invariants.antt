@@ -1,5 +1,5 @@
 use Rattle.std.proofs.Common.{◌≡◌, length}
-use Rattle.ft_scan.specs.Homes.{AreHomes}
+use Rattle.ft_scan.specs.steps.Homes.{AreHomes}
 use Rattle.ft_scan.proofs.homes.homes.Given as goal
 
 abbrev pub invariant-tables : goal.invariant-tables

@@ -1,7 +1,7 @@
 use Rattle.std.proofs.Common.{take}
 use Rattle.std.specs.Prelude.{◌==◌}
 use Rattle.std.specs.List.{list_any}
-use Rattle.ft_scan.specs.Mapping.{IsFilled}
+use Rattle.ft_scan.specs.steps.Mapping.{IsFilled}
 use Rattle.ft_scan.proofs.mapping.put_rows.Given as goal
 
 abbrev pub invariant-loop-row : goal.invariant-loop-row

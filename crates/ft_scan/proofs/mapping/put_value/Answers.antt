@@ -1,4 +1,4 @@
-use Rattle.std.proofs.Common.{◌≡◌, ◌∙◌, sym, ap, subst, arith, true, slice_get, slice_set, Some, FitsSigned, w64}
+use Rattle.std.proofs.Common.{◌≡◌, ◌∙◌, sym, ap, subst, arith, true, slice_set, FitsSigned, w64}
 use Rattle.std.proofs.lemmas.Bool.{cond-true, cond-false}
 use Rattle.std.proofs.lemmas.Int.{to_z-of_z}
 use Rattle.ft_core.specs.Kinds.{Kinds, defined_kinds, is_of, place_of}

@@ -1,6 +1,6 @@
 use Rattle.std.proofs.Common.{◌∙◌, sym, ap, subst, ◌+◌, length}
 use Rattle.std.proofs.lemmas.List.{length_push}
-use Rattle.ft_scan.specs.Opening.{AllStart}
+use Rattle.ft_scan.specs.steps.Opening.{AllStart}
 use Rattle.ft_scan.proofs.OpeningLemmas.{all_start_more}
 use Rattle.ft_scan.proofs.opening.runs.Goals as goal
 

@@ -1,5 +1,5 @@
 use Rattle.std.proofs.Common.{◌≡◌, length}
-use Rattle.ft_scan.specs.Opening.{AllStart}
+use Rattle.ft_scan.specs.steps.Opening.{AllStart}
 use Rattle.ft_scan.proofs.opening.runs.Given as goal
 
 abbrev pub invariant-loop-at : goal.invariant-loop-at

@@ -1,7 +1,7 @@
 use Rattle.std.proofs.Common.{rules, arith, subst, sym, refl, ◌+◌, pos, slice_index_or, FitsSigned, w64}
 use Rattle.std.proofs.lemmas.Int.{to_z-of_z}
 use Rattle.std.proofs.lemmas.Option.{slice_get-get_or}
-use Rattle.ft_scan.specs.Put.{ArePut}
+use Rattle.ft_scan.specs.steps.Put.{ArePut}
 use Rattle.ft_scan.proofs.PutLemmas.{put_more}
 use Rattle.ft_scan.proofs.places.put_values.Goals as goal
 

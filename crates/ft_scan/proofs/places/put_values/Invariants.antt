@@ -1,4 +1,4 @@
-use Rattle.ft_scan.specs.Put.{ArePut}
+use Rattle.ft_scan.specs.steps.Put.{ArePut}
 use Rattle.ft_scan.proofs.places.put_values.Given as goal
 
 abbrev pub invariant-loop-at : goal.invariant-loop-at

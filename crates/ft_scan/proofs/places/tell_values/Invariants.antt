@@ -1,4 +1,4 @@
-use Rattle.ft_scan.specs.Put.{AreTold}
+use Rattle.ft_scan.specs.steps.Put.{AreTold}
 use Rattle.ft_scan.proofs.places.tell_values.Given as goal
 
 abbrev pub invariant-loop-at : goal.invariant-loop-at

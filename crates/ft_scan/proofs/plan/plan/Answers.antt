@@ -1,6 +1,6 @@
 use Rattle.std.proofs.Common.{◌≡◌, ◌∙◌, ap, arith, false, replicate, length, slice_index_or, subst}
 use Rattle.std.proofs.lemmas.Option.{slice_get-get_or}
-use Rattle.ft_scan.specs.Planning.{IsSoFar}
+use Rattle.ft_scan.specs.steps.Planning.{IsSoFar}
 use Rattle.ft_scan.proofs.PlanLemmas.{item-made, none-made, all-made}
 use Rattle.ft_scan.proofs.plan.plan.Goals as goal
 

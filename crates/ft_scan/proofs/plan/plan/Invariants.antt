@@ -1,4 +1,4 @@
-use Rattle.ft_scan.specs.Planning.{IsSoFar}
+use Rattle.ft_scan.specs.steps.Planning.{IsSoFar}
 use Rattle.ft_scan.proofs.plan.plan.Given as goal
 
 abbrev pub invariant-items : goal.invariant-items

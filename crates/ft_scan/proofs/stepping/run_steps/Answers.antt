@@ -1,6 +1,6 @@
 use Rattle.std.proofs.Common.{◌≡◌, subst, suc, ◌+◌, length, arith}
 use Rattle.std.proofs.lemmas.Option.{slice_get-get_or}
-use Rattle.ft_scan.specs.Told.{IsTold}
+use Rattle.ft_scan.specs.steps.Told.{IsTold}
 use Rattle.ft_scan.proofs.CanTakeLemmas.{can_take}
 use Rattle.ft_scan.proofs.LeavesLemmas.{goes_on}
 use Rattle.ft_scan.proofs.stepping.run_steps.Goals as goal

@@ -1,6 +1,6 @@
 use Rattle.std.proofs.Common.{ℕ}
 use Rattle.ft_mean.specs.Reading.{Reading}
-use Rattle.ft_scan.specs.Told.{IsScan, IsTold}
+use Rattle.ft_scan.specs.steps.Told.{IsScan, IsTold}
 use Rattle.ft_scan.proofs.stepping.run_steps.Given as goal
 
 abbrev pub invariant-loop-step : goal.invariant-loop-step

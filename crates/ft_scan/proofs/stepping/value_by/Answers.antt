@@ -1,6 +1,6 @@
 use Rattle.std.proofs.Common.{rules, FitsSigned, w64}
 use Rattle.std.proofs.lemmas.Int.{to_z-of_z}
-use Rattle.ft_scan.specs.Frame.{view_of}
+use Rattle.ft_scan.specs.steps.Frame.{view_of}
 use Rattle.ft_scan.proofs.FrameLemmas.{cell_whole, cell_missed, cell_found}
 use Rattle.ft_scan.proofs.TableLemmas.{grid_safe}
 use Rattle.ft_scan.proofs.stepping.value_by.Goals as goal

@@ -2,9 +2,9 @@ use Rattle.std.proofs.Common.{◌≡◌, ◌∙◌, sym, ap, subst, ◌∷◌, [
 use Rattle.ft_core.specs.Kinds.{count_of, given_kinds, side_kinds}
 use Rattle.ft_mean.specs.Proper.{AllProper}
 use Rattle.ft_mean.specs.Reading.{IsListOf}
-use Rattle.ft_scan.specs.Put.{ArePlacesIn, AreOnce, AreTold}
-use Rattle.ft_scan.specs.Scanning.{Scanning}
-use Rattle.ft_scan.specs.Stands.{kept_of, rows_at}
+use Rattle.ft_scan.specs.steps.Put.{ArePlacesIn, AreOnce, AreTold}
+use Rattle.ft_scan.specs.meaning.Scanning.{Scanning}
+use Rattle.ft_scan.specs.steps.Stands.{kept_of, rows_at}
 use Rattle.ft_scan.proofs.ListedLemmas.{listed_within, listed_once}
 use Rattle.ft_scan.proofs.StandsLemmas.{begun_scan, ended, GoesOnBy, goes_on}
 use Rattle.ft_scan.proofs.scanner.Scanner.step.Goals as goal
@@ -24,7 +24,7 @@ pub run_steps-requires-clause-told : goal.run_steps-requires-clause-told
 run_steps-requires-clause-told c =
     let s = c.self.inside in
     (begun_scan c.laws.ensures) s.tables.now (subst (λ (w : Scanning). AllProper w.set) (sym c.self.view_is) c.requires.proper) (kept_of s)
-    (rows_at s.given s.past.items) (rows_at s.own s.past.items) c.args.given.now c.self.invariant
+    (rows_at s.given s.past.items) (rows_at s.side_variables s.past.items) c.args.given.now c.self.invariant
     (subst (λ (w : Scanning). IsListOf w.set (given_kinds w.side) (c.args.given.now ∷ [])) (sym c.self.view_is) c.requires.given)
     c.as_slice.result.now c.as_slice.ensures c.as_slice-2.result.now c.as_slice-2.ensures c.put_values.new.row c.put_values.ensures
 
@@ -32,12 +32,12 @@ pub tell_values-requires-clause-inside : goal.tell_values-requires-clause-inside
 tell_values-requires-clause-inside c =
     let s = c.self.inside in
     let told = (ended c.laws.ensures) s.tables.now (subst (λ (w : Scanning). AllProper w.set) (sym c.self.view_is) c.requires.proper) (kept_of s)
-    (rows_at s.given s.past.items) (rows_at s.own s.past.items) c.args.given.now c.self.invariant
+    (rows_at s.given s.past.items) (rows_at s.side_variables s.past.items) c.args.given.now c.self.invariant
     (subst (λ (w : Scanning). IsListOf w.set (given_kinds w.side) (c.args.given.now ∷ [])) (sym c.self.view_is) c.requires.given)
     c.as_slice.result.now c.as_slice.ensures c.as_slice-2.result.now c.as_slice-2.ensures c.put_values.new.row c.put_values.ensures
     c.run_steps.new.frame c.run_steps.ensures in
     subst (λ places. ArePlacesIn places (length c.as_slice-4.result.now)) (sym c.as_slice-3.ensures)
-    (subst (ArePlacesIn s.own) (sym (ap length c.as_slice-4.ensures ∙ told.is_frame.now)) ((listed_within c.laws.ensures) s.tables.now (side_kinds s.side) s.own c.self.invariant.own_places))
+    (subst (ArePlacesIn s.side_variables) (sym (ap length c.as_slice-4.ensures ∙ told.is_frame.now)) ((listed_within c.laws.ensures) s.tables.now (side_kinds s.side) s.side_variables c.self.invariant.side_places))
 
 -- the scan's rows, and what it stands for with them
 went_on : (c : goal.After-self-1) → GoesOnBy c.self.inside.tables.now (kept_of c.self.inside) c.self.inside.past.items c.args.given.now c.tell_values.new.values
@@ -48,11 +48,11 @@ went_on c =
     let proper = subst (λ (w : Scanning). AllProper w.set) (sym c.self.view_is) c.requires.proper in
     let in_range = subst (λ (w : Scanning). IsListOf w.set (given_kinds w.side) (c.args.given.now ∷ [])) (sym c.self.view_is) c.requires.given in
     let room = subst (λ (w : Scanning). length c.args.values.now ≡ count_of (side_kinds w.side) w.set.vars) (sym c.self.view_is) c.requires.room in
-    let told = (ended c.laws.ensures) S proper (kept_of s) (rows_at s.given s.past.items) (rows_at s.own s.past.items) c.args.given.now c.self.invariant in_range
+    let told = (ended c.laws.ensures) S proper (kept_of s) (rows_at s.given s.past.items) (rows_at s.side_variables s.past.items) c.args.given.now c.self.invariant in_range
     c.as_slice.result.now c.as_slice.ensures c.as_slice-2.result.now c.as_slice-2.ensures c.put_values.new.row c.put_values.ensures
     c.run_steps.new.frame c.run_steps.ensures in
-    let out : AreTold s.own c.run_steps.new.frame.now (length s.own) c.tell_values.new.values
-    = subst (λ row. AreTold s.own row (length s.own) c.tell_values.new.values) c.as_slice-4.ensures
+    let out : AreTold s.side_variables c.run_steps.new.frame.now (length s.side_variables) c.tell_values.new.values
+    = subst (λ row. AreTold s.side_variables row (length s.side_variables) c.tell_values.new.values) c.as_slice-4.ensures
     (subst (λ places. AreTold places c.as_slice-4.result.now (length places) c.tell_values.new.values) c.as_slice-3.ensures c.tell_values.ensures.told) in
     (goes_on c.laws.ensures) S proper (kept_of s) s.past.items c.args.given.now c.self.invariant in_range c.run_steps.new.frame told
     c.tell_values.new.values (c.tell_values.ensures.count ∙ room) out c.end_scan.new.frame c.end_scan.ensures c.with-self-inside.result.items c.with-self-inside.ensures

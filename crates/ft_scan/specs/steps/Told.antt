@@ -1,5 +1,5 @@
 -- What a scan under way has of a scan of a reading.
-use Rattle.std.specs.Prelude.{ℕ, suc, ◌≡◌, ◌<◌, ◌≤◌, pos, false, List, length, slice_get, slice_index_or, Some, IsTrue}
+use Rattle.std.specs.Prelude.{ℕ, suc, ◌-◌, ◌≡◌, ◌<◌, ◌≤◌, pos, false, List, length, slice_get, slice_index_or, Some, IsTrue}
 use Rattle.ft_base.specs.Interval.{IsWithin}
 use Rattle.ft_core.specs.declared.tables.Tables.{Tables}
 use Rattle.ft_core.specs.declared.tables.Var.{Var}
@@ -11,30 +11,36 @@ use Rattle.ft_core.specs.declared.term.Term.{Term}
 use Rattle.ft_core.specs.Kinds.{given_kinds, side_kinds, section_of}
 use Rattle.ft_mean.specs.Cells.{Follows}
 use Rattle.ft_mean.specs.Memory.{at_scan, memory_at, look}
-use Rattle.ft_mean.specs.Reading.{Reading, IsVar, before}
+use Rattle.ft_mean.specs.Reading.{Reading, IsVar, before, begun, scan_before}
 use Rattle.ft_mean.specs.Value.{truth, value}
 use Rattle.ft_scan.specs.declared.plan.Step.{Step}
 use Rattle.ft_scan.specs.declared.plan.Step.TheVariants as step
 use Rattle.ft_scan.specs.declared.frame.Frame.{Frame}
 use Rattle.ft_scan.specs.declared.frame.Running.{Running}
 use Rattle.ft_scan.specs.declared.frame.Running.TheVariants.{Timer, Band}
-use Rattle.ft_scan.specs.Frame.{IsFrameOf, IsRunOf}
-use Rattle.ft_scan.specs.Plan.{IsVector}
+use Rattle.ft_scan.specs.steps.Frame.{IsFrameOf, IsRunOf}
+use Rattle.ft_scan.specs.steps.Plan.{IsVector}
 
 -- scan n of a reading is in range, and the variables of the side follow its tables there
 pub record IsScan (S : Tables) (s : Side) (a : Reading) (n : ℕ) : Type 0 where
   pub in_range : (j x : ℕ) (v : Var) → j ≤ n → slice_get S.vars x ≡ Some v → IsWithin v.range (a j x)
   pub follows : Follows S (section_of s) (look S a n) (a n)
 
--- a running memory was told the truths of its condition, or the numbers of its term, at the first n scans of a reading
-abbrev pub WasTold : Tables → Reading → ℕ → Memory → Running → Type 0
-WasTold S a n (Held name s c hold) (Timer t) =
-    (length t.truths ≡ n) × ((j : ℕ) → j < n → slice_index_or t.truths j false ≡ truth (at_scan S a (memory_at S a) j) c)
-WasTold S a n (Hyst name s e lo hi start) (Band b) =
-    (length b.numbers ≡ n) × ((j : ℕ) → j < n → slice_index_or b.numbers j (pos 0) ≡ value (at_scan S a (memory_at S a) j) e)
-WasTold S a n _ _ = ⊥
+-- a running memory was told the truths of its condition, or the numbers of its term, at each scan of a reading from `from` on, before n
+abbrev pub WasToldSince : Tables → Reading → (from n : ℕ) → Memory → Running → Type 0
+WasToldSince S a from n (Held name s c hold) (Timer t) =
+    (length t.truths ≡ n - from)
+    × ((j : ℕ) → from ≤ j → j < n → slice_index_or t.truths (j - from) false ≡ truth (at_scan S a (memory_at S a) j) c)
+WasToldSince S a from n (Hyst name s e lo hi start) (Band b) =
+    (length b.numbers ≡ n - from)
+    × ((j : ℕ) → from ≤ j → j < n → slice_index_or b.numbers (j - from) (pos 0) ≡ value (at_scan S a (memory_at S a) j) e)
+WasToldSince S a from n _ _ = ⊥
 
--- the memory at this place runs, and was told the first n scans
+-- it was told the scans before n, from the last of them that begins
+abbrev pub WasTold : Tables → Reading → ℕ → Memory → Running → Type 0
+WasTold S a n memory run = WasToldSince S a (begun S a (scan_before n)) n memory run
+
+-- the memory at this place runs, and was told the scans before n
 abbrev pub RunsFor : Tables → Reading → ℕ → ℕ → Frame → Type 0
 RunsFor S a n m frame = (memory : Memory) → slice_get S.memories m ≡ Some memory
     → (run : Running) × (slice_get frame.runs.items m ≡ Some run) × IsRunOf S.period memory run × WasTold S a n memory run

@@ -12,7 +12,7 @@ use Rattle.ft_core.specs.Kinds.{defined_kinds, makes_image}
 use Rattle.ft_mean.specs.Cells.{defined}
 use Rattle.ft_mean.specs.Reading.{IsVar}
 use Rattle.ft_mean.specs.Value.{View}
-use Rattle.ft_scan.specs.Rows.{HasValues, row_value}
+use Rattle.ft_scan.specs.steps.Rows.{HasValues, row_value}
 use Rattle.ft_mean.specs.Safe.{KeepsSizes}
 
 -- a section that makes an image, at a view that keeps the sizes of the set and where some cell holds for each variable that it defines

@@ -7,7 +7,7 @@ use Rattle.ft_core.specs.declared.tables.Grid.TheVariants.{Normal, Inverted, Vec
 use Rattle.ft_core.specs.declared.term.Cond.{Cond}
 use Rattle.ft_core.specs.declared.term.Term.{Term}
 use Rattle.ft_core.specs.Grids.{defines, is_for}
-use Rattle.ft_scan.specs.Found.{IsTableFor, IsWhole}
+use Rattle.ft_scan.specs.steps.Found.{IsTableFor, IsWhole}
 use Rattle.ft_scan.specs.declared.homes.Home.{Home}
 use Rattle.ft_scan.specs.declared.homes.Home.TheVariants.{Whole, Row}
 
@@ -39,14 +39,14 @@ IsPart at (Vector columns targets terms) x home = (row : ℕ) × (slice_get targ
 IsPart at (Normal target columns rows terms) x home = (target ≡ x) × (home ≡ Whole at)
 IsPart at (Inverted target terms rows grid) x home = (target ≡ x) × (home ≡ Whole at)
 
--- the homes of what a table defines are noted, and the others stay
-pub record Notes (at : ℕ) (grid : Grid) (old new : List (Option Home)) : Type 0 where
+-- the homes of what a table defines are put in, and the others stay
+pub record PutsHomes (at : ℕ) (grid : Grid) (old new : List (Option Home)) : Type 0 where
   pub long : length new ≡ length old
   pub none : (x : ℕ) → slice_get new x ≡ Some None → (slice_get old x ≡ Some None) × IsFalse (defines grid x)
   pub some : (x : ℕ) (home : Home) → slice_get new x ≡ Some (Some home) → (slice_get old x ≡ Some (Some home)) ⊎ IsPart at grid x home
 
 -- the same of the first n rows of a vector table
-pub record NotesRows (at : ℕ) (targets : List ℕ) (n : ℕ) (old new : List (Option Home)) : Type 0 where
+pub record PutsRowHomes (at : ℕ) (targets : List ℕ) (n : ℕ) (old new : List (Option Home)) : Type 0 where
   pub long : length new ≡ length old
   pub none : (x : ℕ) → slice_get new x ≡ Some None
       → (slice_get old x ≡ Some None) × ((row : ℕ) → row < n → slice_get targets row ≡ Some x → ⊥)

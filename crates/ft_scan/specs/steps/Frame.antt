@@ -18,8 +18,8 @@ use Rattle.ft_scan.specs.declared.plan.Step.TheVariants as step
 use Rattle.ft_scan.specs.declared.frame.Frame.{Frame}
 use Rattle.ft_scan.specs.declared.frame.Running.{Running}
 use Rattle.ft_scan.specs.declared.frame.Running.TheVariants.{Timer, Band}
-use Rattle.ft_scan.specs.Found.{IsTableFor, IsWhole}
-use Rattle.ft_scan.specs.Plan.{IsVector}
+use Rattle.ft_scan.specs.steps.Found.{IsTableFor, IsWhole}
+use Rattle.ft_scan.specs.steps.Plan.{IsVector}
 
 -- what every name stands for in a scan under way
 abbrev pub view_of : Frame → View
@@ -85,7 +85,7 @@ Advances V (Hyst name s e lo hi start) (Band b) (Band u) says =
 Advances V _ _ _ says = ⊥
 
 -- a step of a memory
-pub record GoesOn (S : Tables) (at : ℕ) (old new : Frame) : Type 0 where
+pub record AdvancesMemory (S : Tables) (at : ℕ) (old new : Frame) : Type 0 where
   pub memory : Memory
   pub there : slice_get S.memories at ≡ Some memory
   pub run : Running
@@ -104,7 +104,7 @@ abbrev pub Leaves : Tables → Side → Step → (old new : Frame) → Type 0
 Leaves S s (step.Column table) old new = FindsColumn S s table old new
 Leaves S s (step.Cell x table) old new = FindsCell S s x old new
 Leaves S s (step.Entry x table row) old new = FindsEntry S s x table row old new
-Leaves S s (step.Memory m) old new = GoesOn S m old new
+Leaves S s (step.Memory m) old new = AdvancesMemory S m old new
 
 -- a vector table has a column that holds
 pub record HasColumn (S : Tables) (s : Side) (table : ℕ) (frame : Frame) : Type 0 where

@@ -10,8 +10,8 @@ use Rattle.ft_scan.specs.declared.homes.Home.TheVariants.{Whole, Row}
 use Rattle.ft_scan.specs.declared.plan.Planned.{Planned}
 use Rattle.ft_scan.specs.declared.plan.Step.{Step}
 use Rattle.ft_scan.specs.declared.plan.Step.TheVariants as step
-use Rattle.ft_scan.specs.Homes.{IsHome}
-use Rattle.ft_scan.specs.Plan.{IsMade, CanFollow}
+use Rattle.ft_scan.specs.steps.Homes.{IsHome}
+use Rattle.ft_scan.specs.steps.Plan.{IsMade, CanFollow}
 
 -- nothing is added
 pub record Keeps (old new : Planned) : Type 0 where
@@ -23,7 +23,7 @@ pub record Adds (one : Step) (old new : Planned) : Type 0 where
   pub steps : new.steps ≡ old.steps ++ one ∷ []
   pub columns : new.columns ≡ old.columns
 
--- the step that finds a table's column is added and noted
+-- the step that finds a table's column is added, and that it stands is kept
 pub record FirstColumn (table : ℕ) (old new : Planned) : Type 0 where
   pub missed : slice_get old.columns table ≡ Some false
   pub steps : new.steps ≡ old.steps ++ step.Column table ∷ []
@@ -43,13 +43,13 @@ AddsHome variable (Row table row) old new = AddsEntry variable table row old new
 -- a variable that the side's tables define is made by its home
 pub record AddsVariable (S : Tables) (s : Side) (variable : ℕ) (old new : Planned) : Type 0 where
   pub other : IsFalse (is_of S.vars (defined_kinds (section_of s)) variable) → Keeps old new
-  pub own : IsTrue (is_of S.vars (defined_kinds (section_of s)) variable)
+  pub defined : IsTrue (is_of S.vars (defined_kinds (section_of s)) variable)
       → (home : Home) × IsHome S.tables (section_of s) (length S.tables) variable (Some home) × AddsHome variable home old new
 
 -- a memory of the side is made
 pub record AddsMemory (S : Tables) (s : Side) (memory : ℕ) (old new : Planned) : Type 0 where
   pub other : IsFalse (is_memory_of S.memories s memory) → Keeps old new
-  pub own : IsTrue (is_memory_of S.memories s memory) → Adds (step.Memory memory) old new
+  pub of_side : IsTrue (is_memory_of S.memories s memory) → Adds (step.Memory memory) old new
 
 -- the items are the variables, and after them the memories
 pub record AddsItem (S : Tables) (s : Side) (item : ℕ) (old new : Planned) : Type 0 where

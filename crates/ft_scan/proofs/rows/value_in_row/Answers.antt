@@ -6,7 +6,7 @@ use Rattle.ft_core.specs.Kinds.{of_kind}
 use Rattle.ft_scan.proofs.PlaceLemmas.{got, kinds_compare, told_value, told_init}
 use Rattle.ft_scan.proofs.ListedLemmas.{of_var}
 use Rattle.ft_scan.proofs.RowLemmas.{no_reading}
-use Rattle.ft_scan.proofs.rows.told.Goals as goal
+use Rattle.ft_scan.proofs.rows.value_in_row.Goals as goal
 
 pub kind_place-place-requires : goal.kind_place-place-requires
 kind_place-place-requires c =

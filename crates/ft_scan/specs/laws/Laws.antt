@@ -1,9 +1,10 @@
 -- What the crates below say of the definitions, as far as the scanner's proofs need it.
 use Rattle.ft_mean.specs.EvaluationLaws.{SameValue, SameTruth, SameTruths}
 use Rattle.ft_mean.specs.LookLaws.{MemoriesRemember, SidesReadNoAge, SideLooksSame, LooksAreLocal}
-use Rattle.ft_mean.specs.PastLaws.{SameHeld, SameHyst}
+use Rattle.ft_mean.specs.PastLaws.{SameHeld, SameHyst, HystBegins, HystGoesOn}
 use Rattle.ft_mean.specs.RowLaws.{PlacesAreInside, PlacesAreTaken, SameRows, ReadAtPlace, ReadInRange, ReadInFront, GivenOrDefined}
 use Rattle.ft_mean.specs.TableLaws.{HasTable, CellsAreOfTable, OwnReads, SameDefined, HasOneValue, SectionsAreTold}
+use Rattle.ft_mean.specs.TimeLaws.{BegunLow, BegunPast}
 use Rattle.ft_mean.specs.TraceLaws.{FitsLonger}
 
 pub record Laws : Type 0 where
@@ -16,6 +17,10 @@ pub record Laws : Type 0 where
   pub local : LooksAreLocal
   pub same_held : SameHeld
   pub same_hyst : SameHyst
+  pub hyst_begins : HystBegins
+  pub hyst_goes_on : HystGoesOn
+  pub begun_low : BegunLow
+  pub begun_past : BegunPast
   pub inside : PlacesAreInside
   pub taken : PlacesAreTaken
   pub same_rows : SameRows

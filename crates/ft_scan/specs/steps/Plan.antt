@@ -12,7 +12,7 @@ use Rattle.ft_core.specs.Reads.{Read, at_now, at_before, of_memory, of_age, cond
 use Rattle.ft_core.specs.Sound.{item_reads, is_memory_of}
 use Rattle.ft_scan.specs.declared.plan.Step.{Step}
 use Rattle.ft_scan.specs.declared.plan.Step.TheVariants as step
-use Rattle.ft_scan.specs.Found.{IsTableFor, IsWhole}
+use Rattle.ft_scan.specs.steps.Found.{IsTableFor, IsWhole}
 
 -- what a step makes known of the scan
 abbrev pub Makes : Step → Read → Type 0
@@ -69,7 +69,7 @@ pub record CanFindEntry (S : Tables) (s : Side) (steps : List Step) (n variable 
   pub found : (q : ℕ) × (q < n) × (slice_get steps q ≡ Some (step.Column table))
   pub known : AreKnown S s steps n (flat_map cell_reads (cells_for variable (Vector columns targets terms)))
 
-pub record CanGoOn (S : Tables) (s : Side) (steps : List Step) (n memory : ℕ) : Type 0 where
+pub record CanAdvanceMemory (S : Tables) (s : Side) (steps : List Step) (n memory : ℕ) : Type 0 where
   pub there : IsTrue (is_memory_of S.memories s memory)
   pub known : AreKnown S s steps n (item_reads S.memories S.tables (of_memory memory))
 
@@ -78,7 +78,7 @@ abbrev pub CanFollow : Tables → Side → List Step → ℕ → Step → Type 0
 CanFollow S s steps n (step.Column table) = CanFindColumn S s steps n table
 CanFollow S s steps n (step.Cell x table) = CanFindCell S s steps n x table
 CanFollow S s steps n (step.Entry x table row) = CanFindEntry S s steps n x table row
-CanFollow S s steps n (step.Memory m) = CanGoOn S s steps n m
+CanFollow S s steps n (step.Memory m) = CanAdvanceMemory S s steps n m
 
 -- each step may be taken after those before it, none stands twice, and all that the side's tables define and all its memories
 -- are made

@@ -1,10 +1,10 @@
 use Rattle.std.proofs.Common.{◌∙◌, sym, ap, subst, refl, List, Some, arith}
 use Rattle.std.proofs.lemmas.Option.{slice_get_within, get_or_from_slice_get}
 use Rattle.ft_scan.specs.declared.frame.Running.{Running}
-use Rattle.ft_scan.specs.Frame.{view_of}
-use Rattle.ft_scan.specs.Stepping.{CanHear, Hears}
+use Rattle.ft_scan.specs.steps.Frame.{view_of}
+use Rattle.ft_scan.specs.steps.Stepping.{CanHear, Hears}
 use Rattle.ft_scan.proofs.FrameLemmas.{memory_safe, can_hear, hears_advances}
-use Rattle.ft_scan.proofs.stepping.go_on.Goals as goal
+use Rattle.ft_scan.proofs.stepping.advance_memory.Goals as goal
 
 pub sample_of-sample-requires : goal.sample_of-sample-requires
 sample_of-sample-requires c = memory_safe c.args.tables.now c.args.frame.now c.requires.frame c.args.memory c.get.result.now c.get.ensures

@@ -5,7 +5,7 @@ use Rattle.ft_core.specs.declared.tables.Memory.{Memory}
 use Rattle.ft_scan.specs.declared.frame.Frame.{Frame}
 use Rattle.ft_scan.specs.declared.frame.Running.{Running}
 use Rattle.ft_scan.specs.declared.frame.Running.TheVariants.{Timer, Band}
-use Rattle.ft_scan.specs.Frame.{IsRunOf}
+use Rattle.ft_scan.specs.steps.Frame.{IsRunOf}
 
 -- it was told no scan yet
 abbrev pub IsFresh : Running → Type 0

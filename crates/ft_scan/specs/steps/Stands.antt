@@ -10,10 +10,10 @@ use Rattle.ft_mean.specs.Reading.{Scans, IsVar, before}
 use Rattle.ft_scan.specs.declared.frame.Frame.{Frame}
 use Rattle.ft_scan.specs.declared.plan.Step.{Step}
 use Rattle.ft_scan.specs.declared.scanner.Scanner.TheInside.{Inside}
-use Rattle.ft_scan.specs.Frame.{IsFrameOf}
-use Rattle.ft_scan.specs.Plan.{IsPlan}
-use Rattle.ft_scan.specs.Scanning.{Scanning}
-use Rattle.ft_scan.specs.Told.{RunsFor}
+use Rattle.ft_scan.specs.steps.Frame.{IsFrameOf}
+use Rattle.ft_scan.specs.steps.Plan.{IsPlan}
+use Rattle.ft_scan.specs.meaning.Scanning.{Scanning}
+use Rattle.ft_scan.specs.steps.Told.{RunsFor}
 
 -- the places in the set of all variables of these kinds, in order of declaration
 pub record ArePlaces (S : Tables) (kinds : Kinds) (places : List ℕ) : Type 0 where
@@ -25,11 +25,11 @@ pub record Kept : Type 0 where
   pub side : Side
   pub steps : List Step
   pub given : List ℕ
-  pub own : List ℕ
+  pub side_variables : List ℕ
   pub frame : Frame
 
 abbrev pub kept_of : Inside → Kept
-kept_of s = record { side = s.side; steps = s.steps; given = s.given; own = s.own; frame = s.frame }
+kept_of s = record { side = s.side; steps = s.steps; given = s.given; side_variables = s.side_variables; frame = s.frame }
 
 -- it stands for a given list and a trace that fits: it keeps the values of the trace's last scan, and each memory of its side
 -- was told all its scans; its steps and places are those of the set
@@ -42,7 +42,7 @@ pub record Stands (S : Tables) (scanner : Kept) (given rows : Scans) : Type 0 wh
   pub is_frame : IsFrameOf S scanner.frame
   pub plan : IsPlan S scanner.side scanner.steps
   pub given_places : ArePlaces S (given_kinds scanner.side) scanner.given
-  pub own_places : ArePlaces S (side_kinds scanner.side) scanner.own
+  pub side_places : ArePlaces S (side_kinds scanner.side) scanner.side_variables
 
 -- the values at some places of each scan
 abbrev pub rows_at : List ℕ → List (List ℤ) → Scans
@@ -50,8 +50,8 @@ rows_at places scans = map (λ scan. map (λ p. slice_index_or scan p (pos 0)) p
 
 -- it shows the values of the scans so far: those that were given, and those of its side
 abbrev pub scanning : Inside → Scanning
-scanning s = record { set = s.tables.now; side = s.side; given = rows_at s.given s.past.items; rows = rows_at s.own s.past.items }
+scanning s = record { set = s.tables.now; side = s.side; given = rows_at s.given s.past.items; rows = rows_at s.side_variables s.past.items }
 
 -- it stands for what it shows
 abbrev pub IsRunning : Inside → Type 0
-IsRunning s = Stands s.tables.now (kept_of s) (rows_at s.given s.past.items) (rows_at s.own s.past.items)
+IsRunning s = Stands s.tables.now (kept_of s) (rows_at s.given s.past.items) (rows_at s.side_variables s.past.items)
