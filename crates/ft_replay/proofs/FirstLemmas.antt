@@ -11,7 +11,7 @@ use Rattle.ft_mean.specs.Fits.{Fits, OutputMap}
 use Rattle.ft_mean.specs.Laws.{AllowedByScan}
 use Rattle.ft_mean.specs.Reading.{Scans, reading_of}
 use Rattle.ft_mean.specs.Refines.{FirstDiffers, Runs, SameAt}
-use Rattle.ft_scan.specs.Allowing.{nat_after}
+use Rattle.ft_scan.specs.meaning.Allowing.{nat_after}
 use Rattle.ft_replay.specs.Laws.{AllowedAfterLast, OneFirstDifference}
 
 -- a list has one trace of the requirement and one list of controlled values

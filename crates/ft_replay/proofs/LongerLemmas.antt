@@ -14,7 +14,7 @@ use Rattle.ft_mean.specs.Fits.{InputMap, Maps}
 use Rattle.ft_mean.specs.Laws.{GoesByScan}
 use Rattle.ft_mean.specs.Reading.{Scans, init_of, reading_of}
 use Rattle.ft_mean.specs.Refines.{SameAt}
-use Rattle.ft_scan.specs.Allowing.{nat_after}
+use Rattle.ft_scan.specs.meaning.Allowing.{nat_after}
 use Rattle.ft_replay.specs.Differing.{DiffersAt, IsFirst, first_with}
 use Rattle.ft_replay.specs.Laws.{Laws}
 use Rattle.ft_replay.specs.Outputs.{AreOutputs}

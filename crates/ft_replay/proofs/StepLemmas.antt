@@ -10,8 +10,8 @@ use Rattle.ft_core.specs.Kinds.{outputs, side_kinds, count_of}
 use Rattle.ft_base.specs.Interval.{IsWithin}
 use Rattle.ft_mean.specs.Fits.{Fits}
 use Rattle.ft_mean.specs.Reading.{IsListOf, Scans, reading_of}
-use Rattle.ft_scan.specs.Allowing.{nat_after}
-use Rattle.ft_scan.specs.Scanning.{Scanning}
+use Rattle.ft_scan.specs.meaning.Allowing.{nat_after}
+use Rattle.ft_scan.specs.meaning.Scanning.{Scanning}
 use Rattle.ft_replay.specs.Differing.{IsFirst, first_with}
 use Rattle.ft_replay.specs.IsReplaying.{Replays}
 use Rattle.ft_replay.specs.Laws.{Laws}

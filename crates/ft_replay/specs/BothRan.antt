@@ -7,7 +7,7 @@ use Rattle.ft_mean.specs.Fits.{Fits, InputMap, Maps}
 use Rattle.ft_mean.specs.Refines.{SameAt}
 use Rattle.ft_replay.specs.Differing.{DiffersAt}
 use Rattle.ft_replay.specs.Outputs.{AreOutputs}
-use Rattle.ft_scan.specs.Scanning.{Scanning}
+use Rattle.ft_scan.specs.meaning.Scanning.{Scanning}
 
 -- a scanner went on by one scan: it was given this row, and told that one
 pub record Ran (old new : Scanning) (given row : List ℤ) : Type 0 where

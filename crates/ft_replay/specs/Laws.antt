@@ -8,7 +8,7 @@ use Rattle.ft_mean.specs.Laws.{FitsOneTrace, HasOneImage, MapsByScan, OutputsAlo
 use Rattle.ft_mean.specs.Reading.{Scans, reading_of}
 use Rattle.ft_mean.specs.Refines.{FirstDiffers}
 use Rattle.ft_mean.specs.RowLaws.{PlacesAreInside, ReadAtPlace, ReadInFront}
-use Rattle.ft_scan.specs.Allowing.{nat_after}
+use Rattle.ft_scan.specs.meaning.Allowing.{nat_after}
 
 pub record Laws : Type 0 where
   pub allowed_by_scan : AllowedByScan

@@ -5,7 +5,7 @@ ghost use Rattle.ft_core.specs.Kinds.{monitored};
 ghost use Rattle.ft_mean.specs.Proper.{AllProper};
 ghost use Rattle.ft_mean.specs.Reading.{IsListOf};
 ghost use Rattle.ft_mean.specs.Refines.{FirstDiffers};
-ghost use Rattle.ft_scan.specs.Allowing.{nat_after};
+ghost use Rattle.ft_scan.specs.meaning.Allowing.{nat_after};
 ghost use Rattle.ft_replay.specs.BothRan.{BothRan};
 ghost use Rattle.ft_replay.specs.Differing.{first_with};
 ghost use Rattle.ft_replay.specs.Rows.{HasRooms};

@@ -2,7 +2,7 @@ use Rattle.std.proofs.Common.{◌∙◌, sym, ap, subst, length, arith}
 use Rattle.std.specs.Prelude.{IsTrue, None}
 use Rattle.std.specs.List.{last_or}
 use Rattle.std.proofs.lemmas.List.{length_push}
-use Rattle.ft_scan.specs.Allowing.{nat_after}
+use Rattle.ft_scan.specs.meaning.Allowing.{nat_after}
 use Rattle.ft_replay.specs.Differing.{first_with}
 use Rattle.ft_replay.specs.IsReplaying.{Replays}
 use Rattle.ft_replay.specs.Replaying.{Replaying}
