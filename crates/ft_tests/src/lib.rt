@@ -1,0 +1,21 @@
+//! What no contract says, shown once: rows of a text and its answer, and each call that can answer want of memory, with memory enough.
+#![tactic(auto)]
+
+#[cfg(test)]
+mod commands;
+#[cfg(test)]
+mod containers;
+#[cfg(test)]
+mod formulas;
+#[cfg(test)]
+mod memories;
+#[cfg(test)]
+mod orders;
+#[cfg(test)]
+mod ports;
+#[cfg(test)]
+mod printing;
+#[cfg(test)]
+mod running;
+#[cfg(test)]
+mod solutions;
