@@ -15,8 +15,9 @@ use Rattle.ft_cli.specs.declared.report.Report.TheVariants as report
 use Rattle.ft_cli.specs.declared.ended.Ended.{Ended}
 use Rattle.ft_tree.specs.declared.tree.Tree.{Tree}
 use Rattle.ft_parse.specs.Parse as tree_spelling
-use Rattle.ft_cli.specs.FormSet.{Spells, SpellsOneSet}
-use Rattle.ft_cli.specs.Judgement.{HasPoints, IsJudgement, IsPrint}
+use Rattle.ft_small.specs.meaning.SetOf.{Spells, SpellsOneSet}
+use Rattle.ft_cli.specs.Judgement.{IsJudgement, IsPrint}
+use Rattle.ft_small.specs.meaning.Finding.{HasPoints}
 use Rattle.ft_cli.specs.Report.{status_of}
 use Rattle.ft_cli.specs.Top.{file_after, Names, NoOthers, report_on_error, set_limit, Use, IsRead, CanBeRead, NamesKnown, HasRefutation, IsFileOutcome, IsPrintOutcome, IsOutcome, HasStatus, HasHeadline, CanBeJudged, CanBePrinted, IsVerdictOn, IsComplete, PrintsAll}
 

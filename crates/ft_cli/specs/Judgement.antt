@@ -1,58 +1,18 @@
 -- What a report says of the bytes of a set.
-use Rattle.std.specs.Prelude.{◌≡◌, ◌⊎◌, ℕ, ◌<◌, ℤ, pos, ◌+ℤ◌, ◌<ℤ◌, List, ◌++◌, length, slice_get, codes, Option, Some}
+use Rattle.std.specs.Prelude.{◌≡◌, ℕ, ℤ, List, length}
 use Rattle.ft_core.specs.declared.tables.Tables.{Tables}
-use Rattle.ft_core.specs.declared.tables.Table.{Table}
-use Rattle.ft_core.specs.declared.tables.Var.{Var}
-use Rattle.ft_core.specs.declared.tables.Grid.{Grid}
-use Rattle.ft_core.specs.declared.tables.Grid.TheVariants.{Normal, Inverted, Vector}
-use Rattle.ft_core.specs.Kinds.{monitored, inputs, outputs}
-use Rattle.ft_mean.specs.Reading.{IsVar}
 use Rattle.ft_mean.specs.Allowed.{Allowed}
-use Rattle.ft_mean.specs.Proper.{IsProper, AllProper}
+use Rattle.ft_mean.specs.Proper.{AllProper}
 use Rattle.ft_mean.specs.Refines.{Refines, FirstDiffers, ShortSafe}
 use Rattle.ft_tree.specs.declared.tree.Tree.{Tree}
 use Rattle.ft_parse.specs.Parse as tree_spelling
 use Rattle.ft_parse.specs.Parse.{IsFault}
 use Rattle.ft_parse.specs.declared.stop.ParseFault.{ParseFault}
 use Rattle.ft_parse.specs.declared.stop.ParseFault.TheVariants as fault
-use Rattle.ft_cli.specs.FormSet.{Spells}
-use Rattle.ft_cli.specs.Report.{section_word}
+use Rattle.ft_small.specs.meaning.SetOf.{Spells}
+use Rattle.ft_small.specs.meaning.Finding.{HasPoints, IsFirstImproper}
 use Rattle.ft_cli.specs.declared.report.Report.{Report}
 use Rattle.ft_cli.specs.declared.report.Report.TheVariants as report
-
--- the range has more than 100,000 values
-abbrev pub IsLarge : ℤ × ℤ → Type 0
-IsLarge range = (range.0 +ℤ pos 99999) <ℤ range.1
-
--- the range of the monitored variable, the input or the output is so large
-pub record HasPoints (S : Tables) : Type 0 where
-  pub place : ℕ
-  pub variable : Var
-  pub kind : IsVar S monitored place variable ⊎ IsVar S inputs place variable ⊎ IsVar S outputs place variable
-  pub large : IsLarge variable.range
-
--- the first variable that a table defines
-abbrev pub first_target : Grid → Option ℕ
-first_target (Normal target columns rows terms) = Some target
-first_target (Inverted target terms rows grid) = Some target
-first_target (Vector columns targets terms) = slice_get targets 0
-
--- the section and the first variable that a table defines
-pub record IsTitle (S : Tables) (table : Table) (title : List ℕ) : Type 0 where
-  pub place : ℕ
-  pub variable : Var
-  pub first : first_target table.grid ≡ Some place
-  pub declared : slice_get S.vars place ≡ Some variable
-  pub text : title ≡ section_word table.section ++ codes " " ++ variable.name
-
--- the first table of the set that isn't proper has this title
-pub record IsFirstImproper (S : Tables) (title : List ℕ) : Type 0 where
-  pub place : ℕ
-  pub table : Table
-  pub there : slice_get S.tables place ≡ Some table
-  pub improper : IsProper S table → ⊥
-  pub before : (k : ℕ) (other : Table) → k < place → slice_get S.tables k ≡ Some other → IsProper S other
-  pub titled : IsTitle S table title
 
 -- no range is so large and the tables are proper; the design of the set that the bytes spell refines its requirement, and the list is
 -- allowed and has `depth` scans

@@ -3,8 +3,6 @@ use Rattle.std.specs.Prelude.{ℕ, ◌+◌, ◌*◌, ℤ, List, [], ◌∷◌, �
 use Rattle.std.specs.List.{flat_map, sum_by, join_with_byte}
 use Rattle.std.specs.Fmt.{decimal, signed_decimal}
 use Rattle.ft_core.specs.declared.tables.Tables.{Tables}
-use Rattle.ft_core.specs.declared.tables.Section.{Section}
-use Rattle.ft_core.specs.declared.tables.Section.TheVariants as section
 use Rattle.ft_core.specs.declared.tables.VarKind.TheVariants.{Mon}
 use Rattle.ft_core.specs.Kinds.{same_kind}
 use Rattle.ft_base.specs.declared.place.Place.{Place}
@@ -36,12 +34,6 @@ abbrev pub trace_text : Tables → List (List ℤ) → List ℕ
 trace_text S scans =
     line (join_with_byte 44 (map (λ v. v.name) (filter (λ v. same_kind Mon v.kind) S.vars)))
     ++ flat_map (λ scan. line (join_with_byte 44 (map signed_decimal scan))) scans
-
-abbrev pub section_word : Section → List ℕ
-section_word section.In = codes "in"
-section_word section.Req = codes "req"
-section_word section.Sof = codes "sof"
-section_word section.Out = codes "out"
 
 abbrev pub which_word : Which → List ℕ
 which_word Set = codes "set"

@@ -15,8 +15,9 @@ use Rattle.ft_cli.specs.declared.report.Report.TheVariants as report
 use Rattle.ft_cli.specs.declared.ended.Ended.{Ended}
 use Rattle.ft_tree.specs.declared.tree.Tree.{Tree}
 use Rattle.ft_parse.specs.Parse as tree_spelling
-use Rattle.ft_cli.specs.FormSet.{Spells}
-use Rattle.ft_cli.specs.Judgement.{HasPoints, IsJudgement, IsPrint, IsRefuted, IsVerified}
+use Rattle.ft_small.specs.meaning.SetOf.{Spells}
+use Rattle.ft_cli.specs.Judgement.{IsJudgement, IsPrint, IsRefuted, IsVerified}
+use Rattle.ft_small.specs.meaning.Finding.{HasPoints}
 use Rattle.ft_cli.specs.Report.{text_of, status_of}
 
 -- the file F of two words, of which the first is this command

@@ -8,13 +8,13 @@ ghost use Rattle.ft_port.specs.Shelf.{OthersStay};
 ghost use Rattle.ft_cli.specs.Top.{file_after, set_file, print_file, report_on_error, use_of, NoOthers, IsPrintOutcome, PrintsAll, NamesKnown, IsFileOutcome, IsOutcome, HasStatus, Writes, HasHeadline, HasRefutation, IsComplete};
 
 use crate::ended::Ended;
-use crate::judging::judge;
-use crate::law::one_set;
+use crate::judging::report_on_text;
 use crate::rendering::{report_text, status_for};
 use crate::report::{Report, Which};
 use ft_base::NoMemory;
 use ft_parse::{ParseFault, parse};
 use ft_port::{Failed, FetchError, Shelf, Sink, fetch};
+use ft_small::one_set;
 use std::alloc::Global;
 
 /// The longest file of a set, in bytes.
@@ -62,7 +62,7 @@ fn report_on_file<S: Shelf>(alloc: Global, name: &str, shelf: &mut S) -> Report
     ensures names { S.names shelf.new ≡ S.names shelf.old }
 {
     match fetch(alloc, shelf, name, SET_LIMIT) {
-        Ok(text) => judge(alloc, text.as_slice()),
+        Ok(text) => report_on_text(alloc, text.as_slice()),
         Err(error) => unfetched(error),
     }
 }

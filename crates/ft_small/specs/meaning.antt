@@ -1,0 +1,5 @@
+-- What the public contracts cite.
+pub mod Finding
+pub mod Lexeme
+pub mod SetOf
+pub mod SmallSet
