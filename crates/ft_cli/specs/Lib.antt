@@ -1,5 +1,3 @@
-pub mod Exit
-pub mod Judgement
-pub mod Report
 pub mod Top
+pub mod meaning
 pub mod stages

@@ -1,8 +1,8 @@
 ghost use Rattle.std.specs.Prelude.{◌≡◌, ◌<◌, ◌-◌, ◌^◌, [], ◌∷◌, length, IfOk, IfErr, OnOk};
-ghost use Rattle.ft_small.specs.meaning.Finding.{steady};
+ghost use Rattle.ft_small.specs.meaning.Laws.{steady};
 ghost use Rattle.ft_small.specs.meaning.SetOf.{HasNames};
 ghost use Rattle.ft_small.specs.meaning.SmallSet.{IsGoodSmallSet, SpellsSmallSet};
-ghost use Rattle.ft_cli.specs.Judgement.{IsJudgement};
+ghost use Rattle.ft_cli.specs.meaning.Judgement.{IsJudgement};
 ghost use Rattle.ft_cli.specs.stages.Judging.{DiffersFirstAt, DoesRefine, HasFewPoints, HasProperTables, IsReportOn};
 
 use crate::report::Report;
@@ -71,7 +71,8 @@ fn with_proper_tables(alloc: Global, small: &SmallSet) -> Result<(), Report>
     ensures stopped { IfErr result (IsReportOn small.now) }
 {
     spelled_has_set();
-    match improper_title(alloc, small)? {
+    let improper = improper_title(alloc, small)?;
+    match improper {
         Some(title) => Err(Report::Improper { title }),
         None => Ok(()),
     }

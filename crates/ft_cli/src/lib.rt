@@ -1,6 +1,7 @@
 //! The top call of the tool: from the words of its command line to the bytes of its report and its status.
 #![tactic(auto)]
 
+mod command;
 mod ended;
 mod exit;
 mod judging;

@@ -15,7 +15,7 @@ use Rattle.ft_mean.specs.Memory.{look}
 use Rattle.ft_mean.specs.Allowed.{Allowed, nat_at}
 use Rattle.ft_small.specs.meaning.SmallSet.{bounds_of}
 use Rattle.ft_small.specs.meaning.SetOf.{IsSetOf, vars_of, var_of}
-use Rattle.ft_small.specs.meaning.Finding.{steady}
+use Rattle.ft_small.specs.meaning.Laws.{steady}
 use Rattle.ft_small.specs.declared.small_set.SmallSet.{SmallSet}
 
 -- each scan is the value alone

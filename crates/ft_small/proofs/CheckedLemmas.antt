@@ -1,9 +1,9 @@
 -- The rest of what is checked of a set holds of that of a small one: its names, what its tables define, its terms and its block.
-use Rattle.std.proofs.Common.{◌≡◌, ◌∙◌, sym, ap, subst, refl, ℕ, zero, suc, ◌<◌, ◌≤◌, ℤ, pos, Bool, true, false, not, ◌&&◌, ◌||◌, List, [], ◌∷◌, map, length, slice_get, Some, arith, true≢false}
-use Rattle.std.specs.Prelude.{IsTrue, ◌==◌, nat_le}
+use Rattle.std.proofs.Common.{◌≡◌, ◌∙◌, sym, ap, subst, refl, ℕ, zero, suc, ◌<◌, ◌≤◌, ℤ, Bool, true, false, not, ◌&&◌, ◌||◌, List, [], ◌∷◌, map, length, slice_get, Some, arith, true≢false}
+use Rattle.std.specs.Prelude.{IsTrue, nat_le}
 use Rattle.std.specs.List.{Contains, list_all, list_any}
 use Rattle.std.specs.Str.{bytes_eq}
-use Rattle.std.proofs.lemmas.Bool.{and_parts, and_from, or_left, or_right}
+use Rattle.std.proofs.lemmas.Bool.{and_parts, and_from, or_left}
 use Rattle.std.proofs.lemmas.Bool.Decides.{Decides-eqb}
 use Rattle.std.proofs.lemmas.Option.{none-some, same_Some}
 use Rattle.std.proofs.lemmas.Slice.Eq.{bytes_eq-Decides}
@@ -12,7 +12,7 @@ use Rattle.ft_core.specs.declared.tables.Block.{Block}
 use Rattle.ft_core.specs.declared.tables.Fact.{Fact}
 use Rattle.ft_core.specs.declared.tables.Fact.TheVariants.{Invariant, Goal}
 use Rattle.ft_core.specs.declared.tables.Grid.{Grid}
-use Rattle.ft_core.specs.declared.tables.Grid.TheVariants.{Normal, Vector}
+use Rattle.ft_core.specs.declared.tables.Grid.TheVariants.{Vector}
 use Rattle.ft_core.specs.declared.tables.Memory.{Memory}
 use Rattle.ft_core.specs.declared.tables.Memory.TheVariants.{Hyst}
 use Rattle.ft_core.specs.declared.tables.Section.{Section}
@@ -24,7 +24,6 @@ use Rattle.ft_core.specs.declared.tables.Var.{Var}
 use Rattle.ft_core.specs.declared.tables.VarKind.TheVariants.{Mon, Con, Input, Output}
 use Rattle.ft_core.specs.declared.term.Cond.{Cond}
 use Rattle.ft_core.specs.declared.term.Cond.TheVariants as cond
-use Rattle.ft_core.specs.declared.term.Term.{Term}
 use Rattle.ft_core.specs.declared.term.Term.TheVariants.{Num, Now}
 use Rattle.ft_core.specs.Blocks.{AreBlocks, may_take}
 use Rattle.ft_core.specs.Checked.{IsChecked}
@@ -32,9 +31,9 @@ use Rattle.ft_core.specs.Distinct.{AreDistinct}
 use Rattle.ft_core.specs.Grids.{defines}
 use Rattle.ft_core.specs.Kinds.{controlled, defined_kinds, is_of}
 use Rattle.ft_core.specs.Names.{AreNamed, is_set_name}
-use Rattle.ft_core.specs.Short.{AreShort, leaves, is_factored, is_short_term, is_short, is_short_grid}
+use Rattle.ft_core.specs.Short.{leaves, is_factored, is_short_term, is_short, is_short_grid}
 use Rattle.ft_core.specs.SizeEquations.{leaves-Num, leaves-Now, factored-Num, factored-Now, short-Yes, short-Compare}
-use Rattle.ft_small.specs.meaning.SmallSet.{IsGoodSmallSet, AreGoodVariables, all_differ, names_in}
+use Rattle.ft_small.specs.meaning.SmallSet.{IsGoodSmallSet, all_differ, names_in}
 use Rattle.ft_small.specs.meaning.SetOf.{HasNames, block_of, cond_of, table_of, tables_of, term_of, var_of, vars_of}
 use Rattle.ft_small.specs.declared.small_set.Guard.{Guard}
 use Rattle.ft_small.specs.declared.small_set.Guard.TheVariants.{Always, Compare}

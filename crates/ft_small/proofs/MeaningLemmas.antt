@@ -19,9 +19,10 @@ use Rattle.ft_mean.specs.Refines.{FirstDiffers, Refines}
 use Rattle.ft_small.specs.meaning.SmallSet.{AreGoodVariables, IsGoodSmallSet, bounds_of}
 use Rattle.ft_small.specs.meaning.SetOf.{HasNames, IsSetOf, block_of, table_of, tables_of, var_of, vars_of}
 use Rattle.ft_small.specs.steps.Short.{AreShort}
-use Rattle.ft_small.specs.meaning.Finding.{HasPoints, IsFirstImproper, IsLarge, IsTitle, SpelledHasSet, section_word, steady}
+use Rattle.ft_small.specs.meaning.Finding.{HasPoints, IsFirstImproper, IsLarge, IsTitle, section_word}
+use Rattle.ft_small.specs.meaning.Laws.{SpelledHasSet, steady}
 use Rattle.ft_small.specs.steps.Rows.{IsSameOn, is_proper_at}
-use Rattle.ft_small.specs.steps.Verdict.{AreProper, DiffersAt, HasLarge, IsFirstImproperIn, IsImproperIn, IsImproperOn, defined_in, place_in, read_in, rows_in}
+use Rattle.ft_small.specs.steps.Verdict.{AreProper, DiffersAt, HasLarge, IsFirstImproperIn, IsImproperIn, IsImproperOn, defined_in, place_in, rows_in}
 use Rattle.ft_small.specs.declared.small_set.Row.{Row}
 use Rattle.ft_small.specs.declared.small_set.Variable.{Variable}
 use Rattle.ft_small.specs.declared.small_set.SmallSet.{SmallSet}

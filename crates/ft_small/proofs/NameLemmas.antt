@@ -10,7 +10,7 @@ use Rattle.ft_lex.specs.declared.token.TokenKind.{TokenKind}
 use Rattle.ft_lex.specs.declared.token.TokenKind.TheVariants as kind
 use Rattle.ft_base.specs.Digits.{is_digit}
 use Rattle.ft_base.specs.Names as byte
-use Rattle.ft_lex.specs.Tokens.{AreTokensFrom, IsNameShape, IsNext, IsShape, is_last, token_text}
+use Rattle.ft_lex.specs.Tokens.{AreTokensFrom, IsNameShape, IsNext, IsShape, is_last}
 use Rattle.ft_small.specs.meaning.SmallSet.{SpellsSmallSet, bound_lexemes, guard_lexemes, entry_lexemes, rows_lexemes, table_lexemes, variable_lexemes, variables_lexemes, tables_lexemes, head_lexemes, block_lexemes, small_set_lexemes, names_in}
 use Rattle.ft_small.specs.meaning.SetOf.{HasNames}
 use Rattle.ft_small.specs.meaning.Lexeme.{Lexeme, word, name, number, sign, end, bad, is_short, lexeme_as, lexeme_of, lexemes_of}

@@ -13,7 +13,8 @@ use Rattle.ft_core.specs.Sound.{IsSound}
 use Rattle.ft_lex.specs.Tokens.{OneTokens}
 use Rattle.ft_small.specs.meaning.Lexeme.{lexemes_of}
 use Rattle.ft_small.specs.meaning.SmallSet.{Reads, SpellsSmallSet}
-use Rattle.ft_small.specs.meaning.SetOf.{IsSetOf, SpellsOneSet}
+use Rattle.ft_small.specs.meaning.SetOf.{IsSetOf}
+use Rattle.ft_small.specs.meaning.Laws.{SpellsOneSet}
 use Rattle.ft_small.specs.declared.cursor.Refusal.{Refusal}
 use Rattle.ft_small.specs.declared.cursor.Refusal.TheVariants.{NoMemory, Other}
 use Rattle.ft_small.specs.declared.small_set.SmallSet.{SmallSet}

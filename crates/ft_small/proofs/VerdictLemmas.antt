@@ -30,7 +30,7 @@ use Rattle.ft_small.specs.meaning.SmallSet.{bounds_of}
 use Rattle.ft_small.specs.meaning.SetOf.{IsSetOf, vars_of, var_of, tables_of, table_of}
 use Rattle.ft_small.specs.steps.Rows.{IsProperOn, IsSameOn, result_at, required_at, designed_at}
 use Rattle.ft_small.specs.steps.Verdict.{AreProper, DiffersAt, IsProperIn, place_in}
-use Rattle.ft_small.specs.meaning.Finding.{steady}
+use Rattle.ft_small.specs.meaning.Laws.{steady}
 use Rattle.ft_small.specs.declared.small_set.Row.{Row}
 use Rattle.ft_small.specs.declared.small_set.Variable.{Variable}
 use Rattle.ft_small.specs.declared.small_set.SmallSet.{SmallSet}

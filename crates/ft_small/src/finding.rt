@@ -4,7 +4,8 @@ ghost use Rattle.ft_mean.specs.Proper.{AllProper};
 ghost use Rattle.ft_mean.specs.Refines.{FirstDiffers, Refines};
 ghost use Rattle.ft_small.specs.meaning.SmallSet.{IsGoodSmallSet};
 ghost use Rattle.ft_small.specs.meaning.SetOf.{IsSetOf};
-ghost use Rattle.ft_small.specs.meaning.Finding.{HasPoints, IsFirstImproper, section_word, steady};
+ghost use Rattle.ft_small.specs.meaning.Finding.{HasPoints, IsFirstImproper, section_word};
+ghost use Rattle.ft_small.specs.meaning.Laws.{steady};
 
 use crate::small_set::SmallSet;
 use crate::verdict::{defined_in, first_difference_on, first_improper, has_large, range_of};

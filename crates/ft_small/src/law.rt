@@ -1,5 +1,4 @@
-ghost use Rattle.ft_small.specs.meaning.SetOf.{SpellsOneSet};
-ghost use Rattle.ft_small.specs.meaning.Finding.{SpelledHasSet, SteadyIsAllowed};
+ghost use Rattle.ft_small.specs.meaning.Laws.{SpellsOneSet, SpelledHasSet, SteadyIsAllowed};
 
 use ft_lex::one_tokens;
 

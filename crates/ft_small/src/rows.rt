@@ -9,7 +9,7 @@ use ft_mean::compare;
 
 impl Row {
     /// Whether the row holds where the variable that its table reads has this value.
-    pub fn holds(&self, value: i64) -> bool
+    pub(crate) fn holds(&self, value: i64) -> bool
         ensures { result ≡ row_holds value self.now }
     {
         match self.guard {
@@ -19,7 +19,7 @@ impl Row {
     }
 
     /// What the row gives there.
-    pub fn gives(&self, value: i64) -> i64
+    pub(crate) fn gives(&self, value: i64) -> i64
         ensures { result ≡ row_value value self.now }
     {
         match self.entry {

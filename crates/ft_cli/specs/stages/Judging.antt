@@ -3,11 +3,12 @@ use Rattle.std.specs.Prelude.{ℕ, ℤ, List}
 use Rattle.ft_core.specs.declared.tables.Tables.{Tables}
 use Rattle.ft_mean.specs.Proper.{AllProper}
 use Rattle.ft_mean.specs.Refines.{FirstDiffers, Refines}
-use Rattle.ft_small.specs.meaning.Finding.{HasPoints, steady}
+use Rattle.ft_small.specs.meaning.Finding.{HasPoints}
+use Rattle.ft_small.specs.meaning.Laws.{steady}
 use Rattle.ft_small.specs.meaning.SetOf.{IsSetOf}
 use Rattle.ft_small.specs.meaning.SmallSet.{SpellsSmallSet}
 use Rattle.ft_small.specs.declared.small_set.SmallSet.{SmallSet}
-use Rattle.ft_cli.specs.Judgement.{IsJudgement}
+use Rattle.ft_cli.specs.meaning.Judgement.{IsJudgement}
 use Rattle.ft_cli.specs.declared.report.Report.{Report}
 
 -- no range that is tried is too large

@@ -1,6 +1,5 @@
 -- What is found of a set: ranges with too many values, and its first table that isn't proper.
-use Rattle.std.specs.Prelude.{◌≡◌, ◌⊎◌, ℕ, zero, suc, ◌<◌, ℤ, pos, ◌+ℤ◌, ◌<ℤ◌, List, [], ◌∷◌, ◌++◌, slice_get, codes, Option, Some}
-use Rattle.ft_base.specs.Interval.{IsWithin}
+use Rattle.std.specs.Prelude.{◌≡◌, ◌⊎◌, ℕ, ◌<◌, ℤ, pos, ◌+ℤ◌, ◌<ℤ◌, List, ◌++◌, slice_get, codes, Option, Some}
 use Rattle.ft_core.specs.declared.tables.Tables.{Tables}
 use Rattle.ft_core.specs.declared.tables.Table.{Table}
 use Rattle.ft_core.specs.declared.tables.Var.{Var}
@@ -10,11 +9,7 @@ use Rattle.ft_core.specs.declared.tables.Section.{Section}
 use Rattle.ft_core.specs.declared.tables.Section.TheVariants as section
 use Rattle.ft_core.specs.Kinds.{monitored, inputs, outputs}
 use Rattle.ft_mean.specs.Reading.{IsVar}
-use Rattle.ft_mean.specs.Allowed.{Allowed}
 use Rattle.ft_mean.specs.Proper.{IsProper}
-use Rattle.ft_small.specs.meaning.SmallSet.{SpellsSmallSet, bounds_of}
-use Rattle.ft_small.specs.meaning.SetOf.{IsSetOf}
-use Rattle.ft_small.specs.declared.small_set.SmallSet.{SmallSet}
 
 -- the range has more than 100,000 values
 abbrev pub IsLarge : ℤ × ℤ → Type 0
@@ -55,17 +50,3 @@ pub record IsFirstImproper (S : Tables) (title : List ℕ) : Type 0 where
   pub improper : IsProper S table → ⊥
   pub before : (k : ℕ) (other : Table) → k < place → slice_get S.tables k ≡ Some other → IsProper S other
   pub titled : IsTitle S table title
-
--- scans of one value
-abbrev pub steady : ℕ → ℤ → List (List ℤ)
-steady zero value = []
-steady (suc n) value = (value ∷ []) ∷ steady n value
-
--- a value in the range of the monitored variable is allowed over and over
-abbrev pub SteadyIsAllowed : Type 0
-SteadyIsAllowed = (small : SmallSet) (S : Tables) → IsSetOf small S
-    → (n : ℕ) (value : ℤ) → 0 < n → IsWithin (bounds_of small.variables.monitored) value → Allowed S (steady n value)
-
--- what bytes spell has its checked set
-abbrev pub SpelledHasSet : Type 0
-SpelledHasSet = (bytes : List ℕ) (small : SmallSet) → SpellsSmallSet bytes small → (S : Tables) × IsSetOf small S

@@ -82,7 +82,3 @@ pub record Spells (bytes : List ℕ) (S : Tables) : Type 0 where
   pub small : SmallSet
   pub spelled : SpellsSmallSet bytes small
   pub is : IsSetOf small S
-
--- bytes spell one set
-abbrev pub SpellsOneSet : Type 0
-SpellsOneSet = (bytes : List ℕ) (S T : Tables) → Spells bytes S → Spells bytes T → S ≡ T

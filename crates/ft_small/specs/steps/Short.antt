@@ -1,5 +1,5 @@
 -- The numbers of a small set's rows are short.
-use Rattle.std.specs.Prelude.{ℕ, Bool, true, nat_le, List, IsTrue}
+use Rattle.std.specs.Prelude.{Bool, true, nat_le, List, IsTrue}
 use Rattle.std.specs.List.{list_all}
 use Rattle.ft_small.specs.declared.small_set.Bound.{Bound}
 use Rattle.ft_small.specs.declared.small_set.Guard.{Guard}

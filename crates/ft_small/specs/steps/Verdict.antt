@@ -5,7 +5,7 @@ use Rattle.ft_core.specs.declared.tables.Section.{Section}
 use Rattle.ft_core.specs.declared.tables.Section.TheVariants as section
 use Rattle.ft_small.specs.meaning.SmallSet.{bounds_of}
 use Rattle.ft_small.specs.meaning.Finding.{IsLarge}
-use Rattle.ft_small.specs.steps.Rows.{IsProperOn, IsSameOn, is_proper_at, required_at, designed_at}
+use Rattle.ft_small.specs.steps.Rows.{IsProperOn, is_proper_at, required_at, designed_at}
 use Rattle.ft_small.specs.declared.small_set.Row.{Row}
 use Rattle.ft_small.specs.declared.small_set.Variable.{Variable}
 use Rattle.ft_small.specs.declared.small_set.Variables.{Variables}
