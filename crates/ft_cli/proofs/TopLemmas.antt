@@ -1,5 +1,5 @@
 -- What comes of a command is an outcome, and what an outcome with each status is.
-use Rattle.std.proofs.Common.{◌≡◌, ◌⊎◌, inl, inr, ◌∙◌, ap, sym, refl, subst, ℕ, ◌<◌, ◌≤◌, List, [], ◌∷◌, true, false, Option, Some, None, IfSome, if◌then◌else◌, codes, arith, rules}
+use Rattle.std.proofs.Common.{◌≡◌, ◌⊎◌, inl, inr, ◌∙◌, ap, sym, refl, subst, ℕ, ◌<◌, ◌≤◌, Bool, true, false, List, [], ◌∷◌, Option, Some, None, IfSome, if◌then◌else◌, codes, arith, rules}
 use Rattle.std.specs.Prelude.{Err}
 use Rattle.std.specs.List.{Contains}
 use Rattle.std.specs.Option.{option_map}
@@ -29,32 +29,39 @@ use Rattle.ft_cli.specs.declared.report.Report.TheVariants as report
 use Rattle.ft_cli.specs.declared.ended.Ended.{Ended}
 
 -- the report on a text that isn't read tells why
-pub unread : (bytes : List ℕ) (f : ParseFault) → IsFault bytes f → ((tree : Tree) → tree_spelling.Spells bytes tree → tree_spelling.Reads (Err f) tree)
-    → IsPrint bytes (report_on_fault f)
+pub unread : (bytes : List ℕ) (f : ParseFault) → IsFault bytes f
+    → ((tree : Tree) → tree_spelling.Spells bytes tree → tree_spelling.Reads (Err f) tree) → IsPrint bytes (report_on_fault f)
 unread bytes (fault.Syntax place) is only = record { refusal = is; none = only }
 unread bytes (fault.Limit which place) is only = record { refusal = is; none = only }
 unread bytes fault.NoMemory is only = tt
 
+-- whichever command it is, its file is among these
+abbrev HasFile : List (List ℕ) → Option Command → Type 0
+HasFile names command = IfSome command (λ c. Contains names (file_of c))
+
 -- the words after the first have the name of the file
 pub known-after : (first : List ℕ) (rest : List (List ℕ)) → NamesKnown (first ∷ rest) rest
 known-after first [] = tt
-known-after first (file ∷ []) =
-    elim (bytes_eq first (codes "verify")) as (λ b. IfSome (if b then Some (verify file) else (if bytes_eq first (codes "print") then Some (print file) else None)) (λ command. Contains (file ∷ []) (file_of command))) [
-      | true ↦ search rules
-      | false ↦ elim (bytes_eq first (codes "print")) as (λ b. IfSome (if b then Some (print file) else None) (λ command. Contains (file ∷ []) (file_of command))) [ true ↦ search rules | false ↦ tt ]
-    ]
+known-after first (file ∷ []) = by_tests (bytes_eq first (codes "verify")) (bytes_eq first (codes "print"))
+  where
+    by_tests : (a b : Bool) → HasFile (file ∷ []) (if a then Some (verify file) else (if b then Some (print file) else None))
+    by_tests true b = search rules
+    by_tests false true = search rules
+    by_tests false false = tt
 known-after first (file ∷ other ∷ more) = tt
 
 pub ruleset known = (known-after)
 
 module _ (command : Command) (file : List ℕ) (is : file ≡ file_of command) where
   -- what is told of the bytes that were read is an outcome
-  pub told-outcome : (uses : List ℕ → Use) (bytes : List ℕ) (r : Report) → IsRead (uses file) bytes → Means command bytes r → IsOutcome (Some command) uses r
+  pub told-outcome : (uses : List ℕ → Use) (bytes : List ℕ) (r : Report) → IsRead (uses file) bytes → Means command bytes r
+      → IsOutcome (Some command) uses r
   told-outcome uses bytes r read means = told command refl bytes (subst (λ name. IsRead (uses name) bytes) is read) means
 
   -- and so is why a file wasn't fetched
   pub unfetched-outcome : (uses : List ℕ → Use) (e : FetchError) (r : Report) → r ≡ report_on_error e
-      → HasFetchCause (uses file).told (uses file).reads set_limit (uses file).faults_before (uses file).faults_now (uses file).reach e → IsOutcome (Some command) uses r
+      → HasFetchCause (uses file).told (uses file).reads set_limit (uses file).faults_before (uses file).faults_now (uses file).reach e
+      → IsOutcome (Some command) uses r
   unfetched-outcome uses fetching.Failed r same cause = read_fault file (sym is) cause same
   unfetched-outcome uses fetching.TooLong r same cause = too_long file (sym is) cause.0 same
   unfetched-outcome uses fetching.NoMemory r same cause = no_memory same
@@ -70,12 +77,13 @@ module _ (command : Command) (file : List ℕ) (is : file ≡ file_of command) w
   }
 
 -- what holds of the command that the words are
-module _ {A : Type 0} (seen : A → Command) (made : Option A) (command : Option Command) (asked : A) (of_words : option_map seen made ≡ command) (is : made ≡ Some asked) where
+module _ {A : Type 0} (seen : A → Command) (made : Option A) (command : Option Command) (asked : A)
+    (of_words : option_map seen made ≡ command) (is : made ≡ Some asked) where
   named-by : Some (seen asked) ≡ command
   named-by = ap (option_map seen) (sym is) ∙ of_words
 
-  pub known-by : (names : List (List ℕ)) → IfSome command (λ c. Contains names (file_of c)) → Contains names (file_of (seen asked))
-  known-by names known = subst (λ k. IfSome k (λ c. Contains names (file_of c))) (sym named-by) known
+  pub known-by : (names : List (List ℕ)) → HasFile names command → Contains names (file_of (seen asked))
+  known-by names known = subst (HasFile names) (sym named-by) known
 
   pub outcome-by : (uses : List ℕ → Use) (r : Report) → IsOutcome (Some (seen asked)) uses r → IsOutcome command uses r
   outcome-by uses r outcome = subst (λ k. IsOutcome k uses r) named-by outcome
@@ -87,8 +95,8 @@ module _ {A : Type 0} (seen : A → Command) (made : Option A) (command : Option
       subst (λ k. NoOthers k reach_before reach_now faults_before faults_now reads_before reads_now) named-by stay
 
 -- words of no form have no command
-pub usage-by : {A : Type 0} (seen : A → Command) (made : Option A) (command : Option Command) (uses : List ℕ → Use) (r : Report) → option_map seen made ≡ command → made ≡ None
-    → r ≡ report.Usage → IsOutcome command uses r
+pub usage-by : {A : Type 0} (seen : A → Command) (made : Option A) (command : Option Command) (uses : List ℕ → Use) (r : Report)
+    → option_map seen made ≡ command → made ≡ None → r ≡ report.Usage → IsOutcome command uses r
 usage-by seen made command uses r of_words is same = usage (sym of_words ∙ ap (option_map seen) is) same
 
 -- want of memory is an outcome for all words
@@ -108,7 +116,8 @@ earned u bytes (report.Printed tree) file means zero_is = absurd means
 earned u bytes report.Unbuilt file means zero_is = absurd (omega arith)
 earned u bytes report.Points file means zero_is = absurd (omega arith)
 earned u bytes (report.Improper title) file means zero_is = absurd (omega arith)
-earned u bytes (report.Verified S list) file means zero_is = record { set = S; list = list; bytes = bytes; verified = refl; file = file; means = means }
+earned u bytes (report.Verified S list) file means zero_is =
+    record { set = S; list = list; bytes = bytes; verified = refl; file = file; means = means }
 earned u bytes (report.Refuted S list scan) file means zero_is = absurd (omega arith)
 
 -- the only judgement of status 1 is that of a refuted set
@@ -140,8 +149,8 @@ module _ (command : Option Command) (uses : List ℕ → Use) (r : Report) (outc
         (bytes, subst (λ c. IsRead (uses (file_of c)) bytes) e read, subst (λ c. Means c bytes r) e means)
   ]
 
-module _ (sink_before sink_now : ℕ) (ended : Ended) (status : HasStatus sink_before sink_now ended) (command : Option Command) (uses : List ℕ → Use)
-    (outcome : IsOutcome command uses ended.report) where
+module _ (sink_before sink_now : ℕ) (ended : Ended) (status : HasStatus sink_before sink_now ended) (command : Option Command)
+    (uses : List ℕ → Use) (outcome : IsOutcome command uses ended.report) where
   -- a status below 6 is the report's
   own : (n : ℕ) → ended.status ≡ n → (n ≡ 6 → ⊥) → status_of ended.report ≡ n
   own n is other = elim status [
@@ -176,8 +185,8 @@ not-long u bytes (inl can) long = omega (arith, long.longer bytes can.0, can.1)
 not-long u bytes (inr can) long = omega (arith, long.far, can.2)
 
 -- where the bytes of a command's file can be had and its faults didn't rise, the report tells what they mean; want of memory is free
-module _ (command : Option Command) (uses : List ℕ → Use) (r : Report) (outcome : IsOutcome command uses r) (asked : Command) (named : command ≡ Some asked)
-    (bytes : List ℕ) (can : CanBeRead (uses (file_of asked)) bytes)
+module _ (command : Option Command) (uses : List ℕ → Use) (r : Report) (outcome : IsOutcome command uses r) (asked : Command)
+    (named : command ≡ Some asked) (bytes : List ℕ) (can : CanBeRead (uses (file_of asked)) bytes)
     (still : Rose (uses (file_of asked)).faults_before (uses (file_of asked)).faults_now → ⊥) where
   own-file : (file : List ℕ) → Names command file → file_of asked ≡ file
   own-file file names = subst (λ k. Names k file) named names
@@ -186,7 +195,8 @@ module _ (command : Option Command) (uses : List ℕ → Use) (r : Report) (outc
   told-or-none = elim outcome [
     | usage none is ↦ absurd (none-some asked (sym none ∙ named))
     | read_fault file names cause is ↦
-        absurd (still (subst (λ f. Rose (uses f).faults_before (uses f).faults_now) (sym (own-file file names)) (rises (uses file).faults_before (uses file).faults_now cause.once)))
+        absurd (still (subst (λ f. Rose (uses f).faults_before (uses f).faults_now) (sym (own-file file names))
+        (rises (uses file).faults_before (uses file).faults_now cause.once)))
     | too_long file names cause is ↦
         absurd (not-long (uses (file_of asked)) bytes can
         (subst (λ f. IsTooLong (uses f).told (uses f).reads set_limit (uses f).reach) (sym (own-file file names)) cause))
@@ -216,7 +226,8 @@ decided one_set u S can (report.Improper title) means =
 decided one_set u S can (report.Verified T list) means = one_set can.bytes T S means.spelled can.spelled
 decided one_set u S can (report.Refuted T list scan) means = one_set can.bytes T S means.spelled can.spelled
 
-pub complete : SpellsOneSet → (command : Option Command) (uses : List ℕ → Use) (r : Report) → IsOutcome command uses r → IsComplete command uses r
+pub complete : SpellsOneSet → (command : Option Command) (uses : List ℕ → Use) (r : Report) → IsOutcome command uses r
+    → IsComplete command uses r
 complete one_set command uses r outcome file S named can still =
     elim (told-or-none command uses r outcome (verify file) named can.bytes can.file still) [
       | inl means ↦ decided one_set (uses file) S can r means
@@ -224,7 +235,8 @@ complete one_set command uses r outcome file S named can still =
     ]
 
 -- the tree that the bytes spell is the one that is printed
-printed : (u : Use) (tree : Tree) (can : CanBePrinted u tree) (r : Report) → IsPrint can.bytes r → (r ≡ report.Printed tree) ⊎ (r ≡ report.NoMemory)
+printed : (u : Use) (tree : Tree) (can : CanBePrinted u tree) (r : Report) → IsPrint can.bytes r
+    → (r ≡ report.Printed tree) ⊎ (r ≡ report.NoMemory)
 printed u tree can report.ReadFault means = absurd means
 printed u tree can (report.TooLong which) means = absurd means
 printed u tree can report.NoMemory means = inr refl

@@ -25,7 +25,8 @@ pub data Command : Type 0 where
 
 -- the command of this name on this file
 abbrev pub command_named : (name file : List ℕ) → Option Command
-command_named name file = if bytes_eq name (codes "verify") then Some (verify file) else (if bytes_eq name (codes "print") then Some (print file) else None)
+command_named name file =
+    if bytes_eq name (codes "verify") then Some (verify file) else (if bytes_eq name (codes "print") then Some (print file) else None)
 
 -- the command of two words, its name and its file
 abbrev pub command_of : List (List ℕ) → Option Command
@@ -55,7 +56,8 @@ pub record Use : Type 0 where
   pub reach : ℕ
 
 -- the uses of the files of a shelf
-abbrev pub use_of : (told : List ℕ → Option (List ℕ)) → (reads : List ℕ → List Read) → (faults_before faults_now reach : List ℕ → ℕ) → List ℕ → Use
+abbrev pub use_of : (told : List ℕ → Option (List ℕ)) → (reads : List ℕ → List Read) → (faults_before faults_now reach : List ℕ → ℕ)
+    → List ℕ → Use
 use_of told reads faults_before faults_now reach name =
     record { told = told name; reads = reads name; faults_before = faults_before name; faults_now = faults_now name; reach = reach name }
 
@@ -66,7 +68,8 @@ IsRead u bytes = IsFile u.told u.reads set_limit bytes
 -- the bytes could be had: the told file holds them and is no longer than the limit; or, where nothing is told, they were read, and no
 -- read came beyond the limit
 abbrev pub CanBeRead : Use → List ℕ → Type 0
-CanBeRead u bytes = ((u.told ≡ Some bytes) × (length bytes ≤ set_limit)) ⊎ ((u.told ≡ None) × (bytes ≡ given u.reads) × (u.reach ≤ set_limit))
+CanBeRead u bytes =
+    ((u.told ≡ Some bytes) × (length bytes ≤ set_limit)) ⊎ ((u.told ≡ None) × (bytes ≡ given u.reads) × (u.reach ≤ set_limit))
 
 -- what a report on these bytes means to a command
 abbrev pub Means : Command → (bytes : List ℕ) → Report → Type 0
@@ -91,7 +94,8 @@ pub data IsOutcome (command : Option Command) (uses : List ℕ → Use) (r : Rep
       → IsOutcome command uses r
 
 -- the counts and the reads of every file that the words don't name stay
-pub record NoOthers (command : Option Command) (reach_before reach_now faults_before faults_now : List ℕ → ℕ) (reads_before reads_now : List ℕ → List Read) : Type 0 where
+pub record NoOthers (command : Option Command) (reach_before reach_now faults_before faults_now : List ℕ → ℕ)
+    (reads_before reads_now : List ℕ → List Read) : Type 0 where
   pub reach : (other : List ℕ) → (Names command other → ⊥) → reach_now other ≡ reach_before other
   pub faults : (other : List ℕ) → (Names command other → ⊥) → faults_now other ≡ faults_before other
   pub reads : (other : List ℕ) → (Names command other → ⊥) → reads_now other ≡ reads_before other

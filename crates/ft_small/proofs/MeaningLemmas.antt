@@ -173,13 +173,16 @@ module _ (f : SmallSet) (S : Tables) (is : IsSetOf f S) (good : AreGoodVariables
   rows-are-proper s z within =
       elim (cases_Bool (is_proper_at (rows_in f.rows s) (bounds_of (defined_in f.variables s)) z)) [
         | inl is_proper ↦ is_proper
-        | inr improper ↦ absurd (improper-in f S is good s (z, record { within = within; improper = improper }) (proper (place_in s) (table_in f S is s) (there-in f S is s)))
+        | inr improper ↦
+            let table = proper (place_in s) (table_in f S is s) (there-in f S is s) in
+            absurd (improper-in f S is good s (z, record { within = within; improper = improper }) table)
       ]
 
   pub refines-where : FitsOneTrace → HasOneImage → IsSameOn f.rows (bounds_of f.variables.monitored) → Refines S
   refines-where = refines f S is rows-are-proper
 
-  pub differs-where : FitsOneTrace → HasOneImage → (value : ℤ) → DiffersAt f.rows (bounds_of f.variables.monitored) value → FirstDiffers S (steady 1 value) 0
+  pub differs-where : FitsOneTrace → HasOneImage → (value : ℤ) → DiffersAt f.rows (bounds_of f.variables.monitored) value
+      → FirstDiffers S (steady 1 value) 0
   differs-where = differs f S is rows-are-proper
 
 -- what follows where nothing is found

@@ -18,7 +18,11 @@ returns c = λ bytes spelled.
       spelled = record { small = small; spelled = spelled; is = is };
       few = c.requires.few S is;
       proper = c.requires.proper S is;
-      lists = (steady 4 least, c.steady_is_allowed.ensures small S is 4 least (omega arith) (omega (arith, ints), good.range.0), sym is.depth);
+      lists = (
+        steady 4 least,
+        c.steady_is_allowed.ensures small S is 4 least (omega arith) (omega (arith, ints), good.range.0),
+        sym is.depth,
+      );
       safe = λ h k short other. omega (arith, short, other.in_list);
       differs = subst (λ list. FirstDiffers S list 0) (sym list) (c.requires.differs S is (c.requires.proper S is));
       one = ap length list;

@@ -19,6 +19,7 @@ returns c = λ bytes spelled.
       few = c.requires.few S is;
       proper = c.requires.proper S is;
       refines = c.requires.right S is (c.requires.proper S is);
-      allowed = subst (Allowed S) (sym list) (c.steady_is_allowed.ensures small S is 4 least (omega arith) (omega (arith, ints), good.range.0));
+      allowed = subst (Allowed S) (sym list)
+          (c.steady_is_allowed.ensures small S is 4 least (omega arith) (omega (arith, ints), good.range.0));
       long = ap length list ∙ sym is.depth;
     }

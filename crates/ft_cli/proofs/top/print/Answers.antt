@@ -4,4 +4,5 @@ use Rattle.ft_cli.proofs.TopLemmas.{unread}
 use Rattle.ft_cli.proofs.top.print.Goals as goal
 
 pub returns-in-Err : goal.returns-in-Err
-returns-in-Err c = subst (IsPrint c.args.text.now) (sym c.unread.ensures) (unread c.args.text.now c.in-Err.fault c.in-Err.ensures.fault c.in-Err.ensures.only)
+returns-in-Err c = subst (IsPrint c.args.text.now) (sym c.unread.ensures)
+    (unread c.args.text.now c.in-Err.fault c.in-Err.ensures.fault c.in-Err.ensures.only)
