@@ -1,7 +1,10 @@
--- What the parts of the top call give together.
-use Rattle.std.proofs.Common.{◌≡◌, ◌⊎◌, inl, inr, ◌∙◌, ap, sym, refl, subst, ℕ, ◌≤◌, List, [], ◌∷◌, true, false, Option, Some, None, IfSome, if◌then◌else◌, codes, arith, rules}
+-- What comes of a command is an outcome, and what an outcome with each status is.
+use Rattle.std.proofs.Common.{◌≡◌, ◌⊎◌, inl, inr, ◌∙◌, ap, sym, refl, subst, ℕ, ◌<◌, ◌≤◌, Bool, true, false, List, [], ◌∷◌, Option, Some, None, IfSome, if◌then◌else◌, codes, arith, rules}
+use Rattle.std.specs.Prelude.{Err}
 use Rattle.std.specs.List.{Contains}
+use Rattle.std.specs.Option.{option_map}
 use Rattle.std.specs.Str.{bytes_eq}
+use Rattle.std.proofs.lemmas.Option.{none-some, same_Some}
 use Rattle.ft_core.specs.declared.tables.Tables.{Tables}
 use Rattle.ft_mean.specs.Proper.{AllProper}
 use Rattle.ft_port.specs.Causes.{one_more, Rose}
@@ -10,134 +13,144 @@ use Rattle.ft_port.specs.Shelf.{OthersStay}
 use Rattle.ft_port.specs.Fetching.{HasFetchCause, IsTooLong}
 use Rattle.ft_port.specs.declared.fetching.FetchError.{FetchError}
 use Rattle.ft_port.specs.declared.fetching.FetchError.TheVariants as fetching
+use Rattle.ft_tree.specs.declared.tree.Tree.{Tree}
+use Rattle.ft_parse.specs.meaning.Parse as tree_spelling
+use Rattle.ft_parse.specs.meaning.Parse.{IsFault}
+use Rattle.ft_parse.specs.declared.fault.ParseFault.{ParseFault}
+use Rattle.ft_parse.specs.declared.fault.ParseFault.TheVariants as fault
+use Rattle.ft_small.specs.meaning.Laws.{SpellsOneSet}
+use Rattle.ft_small.specs.meaning.Finding.{HasPoints}
+use Rattle.ft_cli.specs.meaning.Judgement.{IsJudgement, IsPrint}
+use Rattle.ft_cli.specs.meaning.Report.{status_of}
+use Rattle.ft_cli.specs.Top.{Command, verify, print, file_of, Names, NoOthers, set_limit, Use, IsRead, CanBeRead, NamesKnown, HasRefutation, Means, IsOutcome, usage, read_fault, too_long, no_memory, told, HasStatus, HasHeadline, CanBeJudged, CanBePrinted, IsVerdictOn, IsComplete, PrintsAll}
+use Rattle.ft_cli.specs.stages.Command.{report_on_error, report_on_fault}
 use Rattle.ft_cli.specs.declared.report.Report.{Report}
 use Rattle.ft_cli.specs.declared.report.Report.TheVariants as report
 use Rattle.ft_cli.specs.declared.ended.Ended.{Ended}
-use Rattle.ft_tree.specs.declared.tree.Tree.{Tree}
-use Rattle.ft_parse.specs.meaning.Parse as tree_spelling
-use Rattle.ft_cli.specs.FormSet.{Spells, SpellsOneSet}
-use Rattle.ft_cli.specs.Judgement.{HasPoints, IsJudgement, IsPrint}
-use Rattle.ft_cli.specs.Report.{status_of}
-use Rattle.ft_cli.specs.Top.{file_after, Names, NoOthers, report_on_error, set_limit, Use, IsRead, CanBeRead, NamesKnown, HasRefutation, IsFileOutcome, IsPrintOutcome, IsOutcome, HasStatus, HasHeadline, CanBeJudged, CanBePrinted, IsVerdictOn, IsComplete, PrintsAll}
 
--- the name is among the words after the command, whichever it is
-named : (command first name : List ℕ) → IfSome (file_after command (first ∷ name ∷ [])) (Contains (name ∷ []))
-named command first name =
-    elim (bytes_eq first command) as (λ b. IfSome (if b then Some name else None) (Contains (name ∷ []))) [ true ↦ search rules | false ↦ tt ]
+-- the report on a text that isn't read tells why
+pub unread : (bytes : List ℕ) (f : ParseFault) → IsFault bytes f
+    → ((tree : Tree) → tree_spelling.Spells bytes tree → tree_spelling.Reads (Err f) tree) → IsPrint bytes (report_on_fault f)
+unread bytes (fault.Syntax place) is only = record { refusal = is; none = only }
+unread bytes (fault.Limit which place) is only = record { refusal = is; none = only }
+unread bytes fault.NoMemory is only = tt
+
+-- whichever command it is, its file is among these
+abbrev HasFile : List (List ℕ) → Option Command → Type 0
+HasFile names command = IfSome command (λ c. Contains names (file_of c))
 
 -- the words after the first have the name of the file
-pub known-after : (command : List ℕ) (rest : List (List ℕ)) → NamesKnown (command ∷ rest) rest
-known-after command [] = (tt, tt)
-known-after command (name ∷ []) = (named (codes "verify") command name, named (codes "print") command name)
-known-after command (name ∷ other ∷ more) = (tt, tt)
+pub known-after : (first : List ℕ) (rest : List (List ℕ)) → NamesKnown (first ∷ rest) rest
+known-after first [] = tt
+known-after first (file ∷ []) = by_tests (bytes_eq first (codes "verify")) (bytes_eq first (codes "print"))
+  where
+    by_tests : (a b : Bool) → HasFile (file ∷ []) (if a then Some (verify file) else (if b then Some (print file) else None))
+    by_tests true b = search rules
+    by_tests false true = search rules
+    by_tests false false = tt
+known-after first (file ∷ other ∷ more) = tt
 
 pub ruleset known = (known-after)
 
--- a judgement of the bytes of a file is an outcome for the file
-pub file-judged : (u : Use) (bytes : List ℕ) (r : Report) → IsRead u bytes → IsJudgement bytes r → IsFileOutcome u r
-file-judged u bytes report.Usage file means = means
-file-judged u bytes report.ReadFault file means = absurd means
-file-judged u bytes (report.TooLong which) file means = absurd means
-file-judged u bytes (report.Refused fault) file means = absurd means
-file-judged u bytes (report.Printed tree) file means = absurd means
-file-judged u bytes report.NoMemory file means = tt
-file-judged u bytes report.Unbuilt file means = record { bytes = bytes; file = file; means = means }
-file-judged u bytes report.Points file means = record { bytes = bytes; file = file; means = means }
-file-judged u bytes (report.Improper title) file means = record { bytes = bytes; file = file; means = means }
-file-judged u bytes (report.Verified S list) file means = record { bytes = bytes; file = file; means = means }
-file-judged u bytes (report.Refuted S list scan) file means = record { bytes = bytes; file = file; means = means }
+module _ (command : Command) (file : List ℕ) (is : file ≡ file_of command) where
+  -- what is told of the bytes that were read is an outcome
+  pub told-outcome : (uses : List ℕ → Use) (bytes : List ℕ) (r : Report) → IsRead (uses file) bytes → Means command bytes r
+      → IsOutcome (Some command) uses r
+  told-outcome uses bytes r read means = told command refl bytes (subst (λ name. IsRead (uses name) bytes) is read) means
 
--- a print of the bytes of a file is an outcome for the file
-pub file-printed : (u : Use) (bytes : List ℕ) (r : Report) → IsRead u bytes → IsPrint bytes r → IsPrintOutcome u r
-file-printed u bytes report.NoMemory file means = tt
-file-printed u bytes (report.Refused fault) file means = record { bytes = bytes; file = file; means = means }
-file-printed u bytes (report.Printed tree) file means = record { bytes = bytes; file = file; means = means }
-file-printed u bytes report.Usage file means = absurd means
-file-printed u bytes report.ReadFault file means = absurd means
-file-printed u bytes (report.TooLong which) file means = absurd means
-file-printed u bytes report.Unbuilt file means = absurd means
-file-printed u bytes report.Points file means = absurd means
-file-printed u bytes (report.Improper title) file means = absurd means
-file-printed u bytes (report.Verified S list) file means = absurd means
-file-printed u bytes (report.Refuted S list scan) file means = absurd means
+  -- and so is why a file wasn't fetched
+  pub unfetched-outcome : (uses : List ℕ → Use) (e : FetchError) (r : Report) → r ≡ report_on_error e
+      → HasFetchCause (uses file).told (uses file).reads set_limit (uses file).faults_before (uses file).faults_now (uses file).reach e
+      → IsOutcome (Some command) uses r
+  unfetched-outcome uses fetching.Failed r same cause = read_fault file (sym is) cause same
+  unfetched-outcome uses fetching.TooLong r same cause = too_long file (sym is) cause.0 same
+  unfetched-outcome uses fetching.NoMemory r same cause = no_memory same
 
--- why a file wasn't fetched is an outcome for the file
-pub unfetched-judged : (u : Use) (e : FetchError) (r : Report) → r ≡ report_on_error e → HasFetchCause u.told u.reads set_limit u.faults_before u.faults_now u.reach e
-    → IsFileOutcome u r
-unfetched-judged u e r is cause = subst (IsFileOutcome u) (sym is) (at e cause)
-  where
-    at : (e : FetchError) → HasFetchCause u.told u.reads set_limit u.faults_before u.faults_now u.reach e → IsFileOutcome u (report_on_error e)
-    at fetching.Failed cause = cause
-    at fetching.TooLong cause = (refl, cause.0)
-    at fetching.NoMemory cause = tt
-
-pub unfetched-printed : (u : Use) (e : FetchError) (r : Report) → r ≡ report_on_error e → HasFetchCause u.told u.reads set_limit u.faults_before u.faults_now u.reach e
-    → IsPrintOutcome u r
-unfetched-printed u e r is cause = subst (IsPrintOutcome u) (sym is) (at e cause)
-  where
-    at : (e : FetchError) → HasFetchCause u.told u.reads set_limit u.faults_before u.faults_now u.reach e → IsPrintOutcome u (report_on_error e)
-    at fetching.Failed cause = cause
-    at fetching.TooLong cause = (refl, cause.0)
-    at fetching.NoMemory cause = tt
-
--- the words name one file, and the others stay
-module _ (set print : Option (List ℕ)) (name : List ℕ) (reach_before reach_now faults_before faults_now : List ℕ → ℕ) (reads_before reads_now : List ℕ → List Read)
-    (stay : OthersStay name reach_before reach_now faults_before faults_now reads_before reads_now) where
-  only : Names set print name → NoOthers set print reach_before reach_now faults_before faults_now reads_before reads_now
-  only named = record {
-    reach = λ other not. stay.reach other (λ same. not (subst (Names set print) (sym same) named));
-    faults = λ other not. stay.faults other (λ same. not (subst (Names set print) (sym same) named));
-    reads = λ other not. stay.reads other (λ same. not (subst (Names set print) (sym same) named));
+  -- the command reads one file, and the others stay
+  pub others-stay : (reach_before reach_now faults_before faults_now : List ℕ → ℕ) (reads_before reads_now : List ℕ → List Read)
+      → OthersStay file reach_before reach_now faults_before faults_now reads_before reads_now
+      → NoOthers (Some command) reach_before reach_now faults_before faults_now reads_before reads_now
+  others-stay reach_before reach_now faults_before faults_now reads_before reads_now stay = record {
+    reach = λ other not. stay.reach other (λ same. not (sym (same ∙ is)));
+    faults = λ other not. stay.faults other (λ same. not (sym (same ∙ is)));
+    reads = λ other not. stay.reads other (λ same. not (sym (same ∙ is)));
   }
 
-  pub only-set : set ≡ Some name → NoOthers set print reach_before reach_now faults_before faults_now reads_before reads_now
-  only-set is = only (inl is)
+-- what holds of the command that the words are
+module _ {A : Type 0} (seen : A → Command) (made : Option A) (command : Option Command) (asked : A)
+    (of_words : option_map seen made ≡ command) (is : made ≡ Some asked) where
+  named-by : Some (seen asked) ≡ command
+  named-by = ap (option_map seen) (sym is) ∙ of_words
 
-  pub only-print : set ≡ None → print ≡ Some name → NoOthers set print reach_before reach_now faults_before faults_now reads_before reads_now
-  only-print none is = only (inr (none, is))
+  pub known-by : (names : List (List ℕ)) → HasFile names command → Contains names (file_of (seen asked))
+  known-by names known = subst (HasFile names) (sym named-by) known
+
+  pub outcome-by : (uses : List ℕ → Use) (r : Report) → IsOutcome (Some (seen asked)) uses r → IsOutcome command uses r
+  outcome-by uses r outcome = subst (λ k. IsOutcome k uses r) named-by outcome
+
+  pub others-by : (reach_before reach_now faults_before faults_now : List ℕ → ℕ) (reads_before reads_now : List ℕ → List Read)
+      → NoOthers (Some (seen asked)) reach_before reach_now faults_before faults_now reads_before reads_now
+      → NoOthers command reach_before reach_now faults_before faults_now reads_before reads_now
+  others-by reach_before reach_now faults_before faults_now reads_before reads_now stay =
+      subst (λ k. NoOthers k reach_before reach_now faults_before faults_now reads_before reads_now) named-by stay
+
+-- words of no form have no command
+pub usage-by : {A : Type 0} (seen : A → Command) (made : Option A) (command : Option Command) (uses : List ℕ → Use) (r : Report)
+    → option_map seen made ≡ command → made ≡ None → r ≡ report.Usage → IsOutcome command uses r
+usage-by seen made command uses r of_words is same = usage (sym of_words ∙ ap (option_map seen) is) same
 
 -- want of memory is an outcome for all words
-no_memory-free : (file print : Option (List ℕ)) (uses : List ℕ → Use) → IsOutcome file print uses report.NoMemory
-no_memory-free None None uses = inr refl
-no_memory-free None (Some name) uses = tt
-no_memory-free (Some name) print uses = tt
+pub answered : (command : Option Command) (uses : List ℕ → Use) (r s : Report)
+    → IsOutcome command uses r → (s ≡ r) ⊎ (s ≡ report.NoMemory) → IsOutcome command uses s
+answered command uses r s outcome (inl same) = subst (IsOutcome command uses) (sym same) outcome
+answered command uses r s outcome (inr none) = no_memory none
 
-pub answered : (file print : Option (List ℕ)) (uses : List ℕ → Use) (r s : Report)
-    → IsOutcome file print uses r → (s ≡ r) ⊎ (s ≡ report.NoMemory) → IsOutcome file print uses s
-answered file print uses r s outcome (inl same) = subst (IsOutcome file print uses) (sym same) outcome
-answered file print uses r s outcome (inr none) = subst (IsOutcome file print uses) (sym none) (no_memory-free file print uses)
+-- the only judgement of status 0 is that of a verified set
+earned : (u : Use) (bytes : List ℕ) (r : Report) → IsRead u bytes → IsJudgement bytes r → status_of r ≡ 0 → HasHeadline u r
+earned u bytes report.Usage file means zero_is = absurd means
+earned u bytes report.ReadFault file means zero_is = absurd means
+earned u bytes (report.TooLong which) file means zero_is = absurd means
+earned u bytes report.NoMemory file means zero_is = absurd (omega arith)
+earned u bytes (report.Refused fault) file means zero_is = absurd means
+earned u bytes (report.Printed tree) file means zero_is = absurd means
+earned u bytes report.Unbuilt file means zero_is = absurd (omega arith)
+earned u bytes report.Points file means zero_is = absurd (omega arith)
+earned u bytes (report.Improper title) file means zero_is = absurd (omega arith)
+earned u bytes (report.Verified S list) file means zero_is =
+    record { set = S; list = list; bytes = bytes; verified = refl; file = file; means = means }
+earned u bytes (report.Refuted S list scan) file means zero_is = absurd (omega arith)
 
--- the only report of status 0 is that of a verified set
-earned : (u : Use) (r : Report) → IsFileOutcome u r → status_of r ≡ 0 → HasHeadline u r
-earned u report.Usage outcome zero_is = absurd outcome
-earned u report.ReadFault outcome zero_is = absurd (omega arith)
-earned u (report.TooLong which) outcome zero_is = absurd (omega arith)
-earned u report.NoMemory outcome zero_is = absurd (omega arith)
-earned u (report.Refused fault) outcome zero_is = absurd outcome
-earned u (report.Printed tree) outcome zero_is = absurd outcome
-earned u report.Unbuilt outcome zero_is = absurd (omega arith)
-earned u report.Points outcome zero_is = absurd (omega arith)
-earned u (report.Improper title) outcome zero_is = absurd (omega arith)
-earned u (report.Verified S list) outcome zero_is =
-    record { set = S; list = list; bytes = outcome.bytes; verified = refl; file = outcome.file; means = outcome.means }
-earned u (report.Refuted S list scan) outcome zero_is = absurd (omega arith)
+-- the only judgement of status 1 is that of a refuted set
+differed : (u : Use) (bytes : List ℕ) (r : Report) → IsRead u bytes → IsJudgement bytes r → status_of r ≡ 1 → HasRefutation u r
+differed u bytes report.Usage file means one_is = absurd means
+differed u bytes report.ReadFault file means one_is = absurd means
+differed u bytes (report.TooLong which) file means one_is = absurd means
+differed u bytes report.NoMemory file means one_is = absurd (omega arith)
+differed u bytes (report.Refused fault) file means one_is = absurd means
+differed u bytes (report.Printed tree) file means one_is = absurd means
+differed u bytes report.Unbuilt file means one_is = absurd (omega arith)
+differed u bytes report.Points file means one_is = absurd (omega arith)
+differed u bytes (report.Improper title) file means one_is = absurd (omega arith)
+differed u bytes (report.Verified S list) file means one_is = absurd (omega arith)
+differed u bytes (report.Refuted S list scan) file means one_is =
+    record { set = S; list = list; scan = scan; bytes = bytes; refuted = refl; file = file; means = means }
 
--- the only report of status 1 is that of a refuted set
-differed : (u : Use) (r : Report) → IsFileOutcome u r → status_of r ≡ 1 → HasRefutation u r
-differed u report.Usage outcome one_is = absurd outcome
-differed u report.ReadFault outcome one_is = absurd (omega arith)
-differed u (report.TooLong which) outcome one_is = absurd (omega arith)
-differed u report.NoMemory outcome one_is = absurd (omega arith)
-differed u (report.Refused fault) outcome one_is = absurd outcome
-differed u (report.Printed tree) outcome one_is = absurd outcome
-differed u report.Unbuilt outcome one_is = absurd (omega arith)
-differed u report.Points outcome one_is = absurd (omega arith)
-differed u (report.Improper title) outcome one_is = absurd (omega arith)
-differed u (report.Verified S list) outcome one_is = absurd (omega arith)
-differed u (report.Refuted S list scan) outcome one_is =
-    record { set = S; list = list; scan = scan; bytes = outcome.bytes; refuted = refl; file = outcome.file; means = outcome.means }
+module _ (command : Option Command) (uses : List ℕ → Use) (r : Report) (outcome : IsOutcome command uses r) where
+  -- an outcome with a status below 4 tells what the bytes mean to the command
+  told-below : (n : ℕ) → n < 4 → status_of r ≡ n → (asked : Command) → command ≡ Some asked
+      → (bytes : List ℕ) × IsRead (uses (file_of asked)) bytes × Means asked bytes r
+  told-below n low status asked named = elim outcome [
+    | usage none is ↦ absurd (none-some asked (sym none ∙ named))
+    | read_fault file names cause is ↦ let five = ap status_of is in absurd (omega (arith, low, status, five))
+    | too_long file names cause is ↦ let ten = ap status_of is in absurd (omega (arith, low, status, ten))
+    | no_memory is ↦ let seven = ap status_of is in absurd (omega (arith, low, status, seven))
+    | told other same bytes read means ↦
+        let e : other ≡ asked = same_Some other asked (sym same ∙ named) in
+        (bytes, subst (λ c. IsRead (uses (file_of c)) bytes) e read, subst (λ c. Means c bytes r) e means)
+  ]
 
-module _ (sink_before sink_now : ℕ) (ended : Ended) (status : HasStatus sink_before sink_now ended) where
+module _ (sink_before sink_now : ℕ) (ended : Ended) (status : HasStatus sink_before sink_now ended) (command : Option Command)
+    (uses : List ℕ → Use) (outcome : IsOutcome command uses ended.report) where
   -- a status below 6 is the report's
   own : (n : ℕ) → ended.status ≡ n → (n ≡ 6 → ⊥) → status_of ended.report ≡ n
   own n is other = elim status [
@@ -145,19 +158,17 @@ module _ (sink_before sink_now : ℕ) (ended : Ended) (status : HasStatus sink_b
     | inr six ↦ absurd (other (sym is ∙ six.0))
   ]
 
-  pub headline : (file print : Option (List ℕ)) (uses : List ℕ → Use) → IsOutcome file print uses ended.report
-      → (name : List ℕ) → file ≡ Some name → ended.status ≡ 0 → HasHeadline (uses name) ended.report
-  headline None print uses outcome name named zero_is = absurd (cc named)
-  headline (Some other) print uses outcome name named zero_is =
-      let same : other ≡ name = cc named in
-      subst (λ n. HasHeadline (uses n) ended.report) same (earned (uses other) ended.report outcome (own 0 zero_is (λ e. omega (arith, e))))
+  pub headline : (file : List ℕ) → command ≡ Some (verify file) → ended.status ≡ 0 → HasHeadline (uses file) ended.report
+  headline file named zero_is =
+      let status = own 0 zero_is (λ e. omega (arith, e)) in
+      let (bytes, read, means) = told-below command uses ended.report outcome 0 (omega arith) status (verify file) named in
+      earned (uses file) bytes ended.report read means status
 
-  pub refutation : (file print : Option (List ℕ)) (uses : List ℕ → Use) → IsOutcome file print uses ended.report
-      → (name : List ℕ) → file ≡ Some name → ended.status ≡ 1 → HasRefutation (uses name) ended.report
-  refutation None print uses outcome name named one_is = absurd (cc named)
-  refutation (Some other) print uses outcome name named one_is =
-      let same : other ≡ name = cc named in
-      subst (λ n. HasRefutation (uses n) ended.report) same (differed (uses other) ended.report outcome (own 1 one_is (λ e. omega (arith, e))))
+  pub refutation : (file : List ℕ) → command ≡ Some (verify file) → ended.status ≡ 1 → HasRefutation (uses file) ended.report
+  refutation file named one_is =
+      let status = own 1 one_is (λ e. omega (arith, e)) in
+      let (bytes, read, means) = told-below command uses ended.report outcome 1 (omega arith) status (verify file) named in
+      differed (uses file) bytes ended.report read means status
 
 -- what can be had is what was read
 read-is : (u : Use) (bytes read : List ℕ) → CanBeRead u bytes → IsRead u read → bytes ≡ read
@@ -173,58 +184,74 @@ not-long : (u : Use) (bytes : List ℕ) → CanBeRead u bytes → IsTooLong u.to
 not-long u bytes (inl can) long = omega (arith, long.longer bytes can.0, can.1)
 not-long u bytes (inr can) long = omega (arith, long.far, can.2)
 
-module _ (one_set : SpellsOneSet) (u : Use) (S : Tables) (can : CanBeJudged u S) where
-  spelled-by : (read : List ℕ) → IsRead u read → Spells read S
-  spelled-by read file = subst (λ text. Spells text S) (read-is u can.bytes read can.file file) can.spelled
+-- where the bytes of a command's file can be had and its faults didn't rise, the report tells what they mean; want of memory is free
+module _ (command : Option Command) (uses : List ℕ → Use) (r : Report) (outcome : IsOutcome command uses r) (asked : Command)
+    (named : command ≡ Some asked) (bytes : List ℕ) (can : CanBeRead (uses (file_of asked)) bytes)
+    (still : Rose (uses (file_of asked)).faults_before (uses (file_of asked)).faults_now → ⊥) where
+  own-file : (file : List ℕ) → Names command file → file_of asked ≡ file
+  own-file file names = subst (λ k. Names k file) named names
 
-  -- each other answer has a cause that isn't there
-  decided : (r : Report) → IsFileOutcome u r → (Rose u.faults_before u.faults_now → ⊥) → IsVerdictOn S r
-  decided report.Usage outcome still = outcome
-  decided report.ReadFault outcome still = still (rises u.faults_before u.faults_now outcome.once)
-  decided (report.TooLong which) outcome still = not-long u can.bytes can.file outcome.1
-  decided (report.Refused fault) outcome still = absurd outcome
-  decided (report.Printed tree) outcome still = absurd outcome
-  decided report.NoMemory outcome still = tt
-  decided report.Unbuilt outcome still = outcome.means S (spelled-by outcome.bytes outcome.file)
-  decided report.Points outcome still =
-      let (T, spelled, points) = outcome.means in
-      can.few (subst HasPoints (one_set outcome.bytes T S spelled (spelled-by outcome.bytes outcome.file)) points)
-  decided (report.Improper title) outcome still =
-      let (T, spelled, few, first) = outcome.means in
-      let same = one_set outcome.bytes T S spelled (spelled-by outcome.bytes outcome.file) in
-      first.improper (subst AllProper (sym same) can.proper first.place first.table first.there)
-  decided (report.Verified T list) outcome still = one_set outcome.bytes T S outcome.means.spelled (spelled-by outcome.bytes outcome.file)
-  decided (report.Refuted T list scan) outcome still = one_set outcome.bytes T S outcome.means.spelled (spelled-by outcome.bytes outcome.file)
+  pub told-or-none : Means asked bytes r ⊎ (r ≡ report.NoMemory)
+  told-or-none = elim outcome [
+    | usage none is ↦ absurd (none-some asked (sym none ∙ named))
+    | read_fault file names cause is ↦
+        absurd (still (subst (λ f. Rose (uses f).faults_before (uses f).faults_now) (sym (own-file file names))
+        (rises (uses file).faults_before (uses file).faults_now cause.once)))
+    | too_long file names cause is ↦
+        absurd (not-long (uses (file_of asked)) bytes can
+        (subst (λ f. IsTooLong (uses f).told (uses f).reads set_limit (uses f).reach) (sym (own-file file names)) cause))
+    | no_memory is ↦ inr is
+    | told other same read file means ↦
+        let e : other ≡ asked = same_Some other asked (sym same ∙ named) in
+        let had = read-is (uses (file_of asked)) bytes read can (subst (λ c. IsRead (uses (file_of c)) read) e file) in
+        inl (subst (λ text. Means asked text r) (sym had) (subst (λ c. Means c read r) e means))
+  ]
 
-pub complete : SpellsOneSet → (file print : Option (List ℕ)) (uses : List ℕ → Use) (r : Report) → IsOutcome file print uses r → IsComplete file uses r
-complete one_set None print uses r outcome name S named can still = absurd (cc named)
-complete one_set (Some other) print uses r outcome name S named can still =
-    let same : name ≡ other = cc named in
-    decided one_set (uses other) S (subst (λ n. CanBeJudged (uses n) S) same can) r outcome
-    (subst (λ n. Rose (uses n).faults_before (uses n).faults_now → ⊥) same still)
+-- each judgement but the verdict has a cause that isn't there
+decided : SpellsOneSet → (u : Use) (S : Tables) (can : CanBeJudged u S) (r : Report) → IsJudgement can.bytes r → IsVerdictOn S r
+decided one_set u S can report.Usage means = means
+decided one_set u S can report.ReadFault means = means
+decided one_set u S can (report.TooLong which) means = means
+decided one_set u S can (report.Refused fault) means = means
+decided one_set u S can (report.Printed tree) means = means
+decided one_set u S can report.NoMemory means = tt
+decided one_set u S can report.Unbuilt means = means S can.spelled
+decided one_set u S can report.Points means =
+    let (T, spelled, points) = means in
+    can.few (subst HasPoints (one_set can.bytes T S spelled can.spelled) points)
+decided one_set u S can (report.Improper title) means =
+    let (T, spelled, few, first) = means in
+    let same = one_set can.bytes T S spelled can.spelled in
+    first.improper (subst AllProper (sym same) can.proper first.place first.table first.there)
+decided one_set u S can (report.Verified T list) means = one_set can.bytes T S means.spelled can.spelled
+decided one_set u S can (report.Refuted T list scan) means = one_set can.bytes T S means.spelled can.spelled
 
-module _ (u : Use) (tree : Tree) (can : CanBePrinted u tree) where
-  tree-by : (read : List ℕ) → IsRead u read → tree_spelling.Spells read tree
-  tree-by read file = subst (λ text. tree_spelling.Spells text tree) (read-is u can.bytes read can.file file) can.spelled
+pub complete : SpellsOneSet → (command : Option Command) (uses : List ℕ → Use) (r : Report) → IsOutcome command uses r
+    → IsComplete command uses r
+complete one_set command uses r outcome file S named can still =
+    elim (told-or-none command uses r outcome (verify file) named can.bytes can.file still) [
+      | inl means ↦ decided one_set (uses file) S can r means
+      | inr none ↦ subst (IsVerdictOn S) (sym none) tt
+    ]
 
-  printed : (r : Report) → IsPrintOutcome u r → (Rose u.faults_before u.faults_now → ⊥) → (r ≡ report.Printed tree) ⊎ (r ≡ report.NoMemory)
-  printed report.ReadFault outcome still = absurd (still (rises u.faults_before u.faults_now outcome.once))
-  printed (report.TooLong which) outcome still = absurd (not-long u can.bytes can.file outcome.1)
-  printed report.NoMemory outcome still = inr refl
-  printed (report.Refused fault) outcome still = absurd (outcome.means.none tree (tree-by outcome.bytes outcome.file))
-  printed (report.Printed read) outcome still = inl (ap report.Printed (outcome.means.alone tree (tree-by outcome.bytes outcome.file)))
-  printed report.Usage outcome still = absurd outcome
-  printed report.Unbuilt outcome still = absurd outcome
-  printed report.Points outcome still = absurd outcome
-  printed (report.Improper title) outcome still = absurd outcome
-  printed (report.Verified S list) outcome still = absurd outcome
-  printed (report.Refuted S list scan) outcome still = absurd outcome
+-- the tree that the bytes spell is the one that is printed
+printed : (u : Use) (tree : Tree) (can : CanBePrinted u tree) (r : Report) → IsPrint can.bytes r
+    → (r ≡ report.Printed tree) ⊎ (r ≡ report.NoMemory)
+printed u tree can report.ReadFault means = absurd means
+printed u tree can (report.TooLong which) means = absurd means
+printed u tree can report.NoMemory means = inr refl
+printed u tree can (report.Refused fault) means = absurd (means.none tree can.spelled)
+printed u tree can (report.Printed read) means = inl (ap report.Printed (means.alone tree can.spelled))
+printed u tree can report.Usage means = absurd means
+printed u tree can report.Unbuilt means = absurd means
+printed u tree can report.Points means = absurd means
+printed u tree can (report.Improper title) means = absurd means
+printed u tree can (report.Verified S list) means = absurd means
+printed u tree can (report.Refuted S list scan) means = absurd means
 
--- where there is no set to verify, the tree that the file spells is printed
-pub prints : (file print : Option (List ℕ)) (uses : List ℕ → Use) (r : Report) → IsOutcome file print uses r → PrintsAll file print uses r
-prints (Some other) print uses r outcome name tree none named can still = absurd (cc none)
-prints None None uses r outcome name tree none named can still = absurd (cc named)
-prints None (Some other) uses r outcome name tree none named can still =
-    let same : name ≡ other = cc named in
-    printed (uses other) tree (subst (λ n. CanBePrinted (uses n) tree) same can) r outcome
-    (subst (λ n. Rose (uses n).faults_before (uses n).faults_now → ⊥) same still)
+pub prints : (command : Option Command) (uses : List ℕ → Use) (r : Report) → IsOutcome command uses r → PrintsAll command uses r
+prints command uses r outcome file tree named can still =
+    elim (told-or-none command uses r outcome (print file) named can.bytes can.file still) [
+      | inl means ↦ printed (uses file) tree can r means
+      | inr none ↦ inr none
+    ]

@@ -1,9 +1,3 @@
-pub mod Exit
-pub mod Form
-pub mod FormSet
-pub mod Judgement
-pub mod Lexeme
-pub mod Report
 pub mod Top
-pub mod Rows
-pub mod Verdict
+pub mod meaning
+pub mod stages

@@ -7,34 +7,40 @@ use Rattle.ft_mean.specs.Proper.{AllProper}
 use Rattle.ft_port.specs.Causes.{Rose}
 use Rattle.ft_port.specs.Fetching.{HasReadFault, IsFile, IsTooLong}
 use Rattle.ft_port.specs.Reads.{Read, given}
-use Rattle.ft_port.specs.declared.fetching.FetchError.{FetchError}
-use Rattle.ft_port.specs.declared.fetching.FetchError.TheVariants as fetching
+use Rattle.ft_tree.specs.declared.tree.Tree.{Tree}
+use Rattle.ft_parse.specs.meaning.Parse as tree_spelling
+use Rattle.ft_small.specs.meaning.Finding.{HasPoints}
+use Rattle.ft_small.specs.meaning.SetOf.{Spells}
+use Rattle.ft_cli.specs.meaning.Judgement.{IsJudgement, IsPrint, IsRefuted, IsVerified}
+use Rattle.ft_cli.specs.meaning.Report.{text_of, status_of}
 use Rattle.ft_cli.specs.declared.report.Which.TheVariants.{Set}
 use Rattle.ft_cli.specs.declared.report.Report.{Report}
 use Rattle.ft_cli.specs.declared.report.Report.TheVariants as report
 use Rattle.ft_cli.specs.declared.ended.Ended.{Ended}
-use Rattle.ft_tree.specs.declared.tree.Tree.{Tree}
-use Rattle.ft_parse.specs.meaning.Parse as tree_spelling
-use Rattle.ft_cli.specs.FormSet.{Spells}
-use Rattle.ft_cli.specs.Judgement.{HasPoints, IsJudgement, IsPrint, IsRefuted, IsVerified}
-use Rattle.ft_cli.specs.Report.{text_of, status_of}
 
--- the file F of two words, of which the first is this command
-abbrev pub file_after : (command : List ℕ) → List (List ℕ) → Option (List ℕ)
-file_after command (first ∷ name ∷ []) = if bytes_eq first command then Some name else None
-file_after command _ = None
+-- what the words ask for: the verdict on the set in a file, or its canonical text
+pub data Command : Type 0 where
+  verify : (file : List ℕ) → Command
+  print : (file : List ℕ) → Command
 
--- the file F of the words `verify F`
-abbrev pub set_file : List (List ℕ) → Option (List ℕ)
-set_file words = file_after (codes "verify") words
+-- the command of this name on this file
+abbrev pub command_named : (name file : List ℕ) → Option Command
+command_named name file =
+    if bytes_eq name (codes "verify") then Some (verify file) else (if bytes_eq name (codes "print") then Some (print file) else None)
 
--- the file F of the words `print F`
-abbrev pub print_file : List (List ℕ) → Option (List ℕ)
-print_file words = file_after (codes "print") words
+-- the command of two words, its name and its file
+abbrev pub command_of : List (List ℕ) → Option Command
+command_of (name ∷ file ∷ []) = command_named name file
+command_of _ = None
+
+-- the file that a command reads
+abbrev pub file_of : Command → List ℕ
+file_of (verify file) = file
+file_of (print file) = file
 
 -- the file that the words name is one of the shelf's
 abbrev pub NamesKnown : List (List ℕ) → List (List ℕ) → Type 0
-NamesKnown words names = IfSome (set_file words) (Contains names) × IfSome (print_file words) (Contains names)
+NamesKnown words names = IfSome (command_of words) (λ command. Contains names (file_of command))
 
 -- the longest file of a set, in bytes
 abbrev pub set_limit : ℕ
@@ -50,7 +56,8 @@ pub record Use : Type 0 where
   pub reach : ℕ
 
 -- the uses of the files of a shelf
-abbrev pub use_of : (told : List ℕ → Option (List ℕ)) → (reads : List ℕ → List Read) → (faults_before faults_now reach : List ℕ → ℕ) → List ℕ → Use
+abbrev pub use_of : (told : List ℕ → Option (List ℕ)) → (reads : List ℕ → List Read) → (faults_before faults_now reach : List ℕ → ℕ)
+    → List ℕ → Use
 use_of told reads faults_before faults_now reach name =
     record { told = told name; reads = reads name; faults_before = faults_before name; faults_now = faults_now name; reach = reach name }
 
@@ -61,64 +68,37 @@ IsRead u bytes = IsFile u.told u.reads set_limit bytes
 -- the bytes could be had: the told file holds them and is no longer than the limit; or, where nothing is told, they were read, and no
 -- read came beyond the limit
 abbrev pub CanBeRead : Use → List ℕ → Type 0
-CanBeRead u bytes = ((u.told ≡ Some bytes) × (length bytes ≤ set_limit)) ⊎ ((u.told ≡ None) × (bytes ≡ given u.reads) × (u.reach ≤ set_limit))
+CanBeRead u bytes =
+    ((u.told ≡ Some bytes) × (length bytes ≤ set_limit)) ⊎ ((u.told ≡ None) × (bytes ≡ given u.reads) × (u.reach ≤ set_limit))
 
--- the report speaks of the bytes that were read
-pub record IsJudged (u : Use) (r : Report) : Type 0 where
-  pub bytes : List ℕ
-  pub file : IsRead u bytes
-  pub means : IsJudgement bytes r
-
--- what a report on a set's file means, and why it comes
-abbrev pub IsFileOutcome : Use → Report → Type 0
-IsFileOutcome u report.Usage = ⊥
-IsFileOutcome u report.ReadFault = HasReadFault u.reads u.faults_before u.faults_now
-IsFileOutcome u (report.TooLong which) = (which ≡ Set) × IsTooLong u.told u.reads set_limit u.reach
-IsFileOutcome u report.NoMemory = Unit {0}
-IsFileOutcome u report.Unbuilt = IsJudged u report.Unbuilt
-IsFileOutcome u report.Points = IsJudged u report.Points
-IsFileOutcome u (report.Improper title) = IsJudged u (report.Improper title)
-IsFileOutcome u (report.Verified S list) = IsJudged u (report.Verified S list)
-IsFileOutcome u (report.Refuted S list scan) = IsJudged u (report.Refuted S list scan)
-IsFileOutcome u (report.Refused fault) = ⊥
-IsFileOutcome u (report.Printed tree) = ⊥
-
--- the report speaks of the bytes that were read
-pub record IsPrintOf (u : Use) (r : Report) : Type 0 where
-  pub bytes : List ℕ
-  pub file : IsRead u bytes
-  pub means : IsPrint bytes r
-
--- the same of a report on the tree that a file spells
-abbrev pub IsPrintOutcome : Use → Report → Type 0
-IsPrintOutcome u report.ReadFault = HasReadFault u.reads u.faults_before u.faults_now
-IsPrintOutcome u (report.TooLong which) = (which ≡ Set) × IsTooLong u.told u.reads set_limit u.reach
-IsPrintOutcome u report.NoMemory = Unit {0}
-IsPrintOutcome u (report.Refused fault) = IsPrintOf u (report.Refused fault)
-IsPrintOutcome u (report.Printed tree) = IsPrintOf u (report.Printed tree)
-IsPrintOutcome u _ = ⊥
-
--- Usage comes for words of no form, and for no others
-abbrev pub IsOutcome : (set print : Option (List ℕ)) → (List ℕ → Use) → Report → Type 0
-IsOutcome (Some name) print uses r = IsFileOutcome (uses name) r
-IsOutcome None (Some name) uses r = IsPrintOutcome (uses name) r
-IsOutcome None None uses r = (r ≡ report.Usage) ⊎ (r ≡ report.NoMemory)
+-- what a report on these bytes means to a command
+abbrev pub Means : Command → (bytes : List ℕ) → Report → Type 0
+Means (verify file) bytes r = IsJudgement bytes r
+Means (print file) bytes r = IsPrint bytes r
 
 -- the words name this file
-abbrev pub Names : (set print : Option (List ℕ)) → List ℕ → Type 0
-Names set print name = (set ≡ Some name) ⊎ ((set ≡ None) × (print ≡ Some name))
+abbrev pub Names : Option Command → List ℕ → Type 0
+Names None file = ⊥
+Names (Some command) file = file_of command ≡ file
+
+-- The causes of a report: the words are of no form; a read of the file failed; the file is too long; memory was refused; or the report
+-- tells what the bytes that were read mean to the command.
+pub data IsOutcome (command : Option Command) (uses : List ℕ → Use) (r : Report) : Type 0 where
+  usage : command ≡ None → r ≡ report.Usage → IsOutcome command uses r
+  read_fault : (file : List ℕ) → Names command file → HasReadFault (uses file).reads (uses file).faults_before (uses file).faults_now
+      → r ≡ report.ReadFault → IsOutcome command uses r
+  too_long : (file : List ℕ) → Names command file → IsTooLong (uses file).told (uses file).reads set_limit (uses file).reach
+      → r ≡ report.TooLong Set → IsOutcome command uses r
+  no_memory : r ≡ report.NoMemory → IsOutcome command uses r
+  told : (asked : Command) → command ≡ Some asked → (bytes : List ℕ) → IsRead (uses (file_of asked)) bytes → Means asked bytes r
+      → IsOutcome command uses r
 
 -- the counts and the reads of every file that the words don't name stay
-pub record NoOthers (set print : Option (List ℕ)) (reach_before reach_now faults_before faults_now : List ℕ → ℕ) (reads_before reads_now : List ℕ → List Read) : Type 0 where
-  pub reach : (other : List ℕ) → (Names set print other → ⊥) → reach_now other ≡ reach_before other
-  pub faults : (other : List ℕ) → (Names set print other → ⊥) → faults_now other ≡ faults_before other
-  pub reads : (other : List ℕ) → (Names set print other → ⊥) → reads_now other ≡ reads_before other
-
--- the report on a set's file that wasn't fetched
-abbrev pub report_on_error : FetchError → Report
-report_on_error fetching.Failed = report.ReadFault
-report_on_error fetching.TooLong = report.TooLong Set
-report_on_error fetching.NoMemory = report.NoMemory
+pub record NoOthers (command : Option Command) (reach_before reach_now faults_before faults_now : List ℕ → ℕ)
+    (reads_before reads_now : List ℕ → List Read) : Type 0 where
+  pub reach : (other : List ℕ) → (Names command other → ⊥) → reach_now other ≡ reach_before other
+  pub faults : (other : List ℕ) → (Names command other → ⊥) → faults_now other ≡ faults_before other
+  pub reads : (other : List ℕ) → (Names command other → ⊥) → reads_now other ≡ reads_before other
 
 -- the status is the report's; or it is 6, and the sink's faults rose
 abbrev pub HasStatus : (faults_before faults_now : ℕ) → Ended → Type 0
@@ -165,10 +145,10 @@ IsVerdictOn S report.NoMemory = Unit {0}
 IsVerdictOn S _ = ⊥
 
 -- where the file can be judged and its faults didn't rise, there is a verdict on its set
-abbrev pub IsComplete : Option (List ℕ) → (List ℕ → Use) → Report → Type 0
-IsComplete file uses r =
-    (name : List ℕ) (S : Tables) → file ≡ Some name → CanBeJudged (uses name) S
-    → (Rose (uses name).faults_before (uses name).faults_now → ⊥) → IsVerdictOn S r
+abbrev pub IsComplete : Option Command → (List ℕ → Use) → Report → Type 0
+IsComplete command uses r =
+    (file : List ℕ) (S : Tables) → command ≡ Some (verify file) → CanBeJudged (uses file) S
+    → (Rose (uses file).faults_before (uses file).faults_now → ⊥) → IsVerdictOn S r
 
 -- the bytes that could be had spell this tree
 pub record CanBePrinted (u : Use) (tree : Tree) : Type 0 where
@@ -176,8 +156,8 @@ pub record CanBePrinted (u : Use) (tree : Tree) : Type 0 where
   pub file : CanBeRead u bytes
   pub spelled : tree_spelling.Spells bytes tree
 
--- where the words are no `verify F`, the file can be printed and its faults didn't rise, its tree is printed; want of memory is free
-abbrev pub PrintsAll : (set print : Option (List ℕ)) → (List ℕ → Use) → Report → Type 0
-PrintsAll set print uses r =
-    (name : List ℕ) (tree : Tree) → set ≡ None → print ≡ Some name → CanBePrinted (uses name) tree
-    → (Rose (uses name).faults_before (uses name).faults_now → ⊥) → (r ≡ report.Printed tree) ⊎ (r ≡ report.NoMemory)
+-- where the file can be printed and its faults didn't rise, its tree is printed; want of memory is free
+abbrev pub PrintsAll : Option Command → (List ℕ → Use) → Report → Type 0
+PrintsAll command uses r =
+    (file : List ℕ) (tree : Tree) → command ≡ Some (print file) → CanBePrinted (uses file) tree
+    → (Rose (uses file).faults_before (uses file).faults_now → ⊥) → (r ≡ report.Printed tree) ⊎ (r ≡ report.NoMemory)

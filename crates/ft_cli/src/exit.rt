@@ -1,5 +1,5 @@
 ghost use Rattle.std.specs.Prelude.{◌≡◌};
-ghost use Rattle.ft_cli.specs.Exit.{exit_of};
+ghost use Rattle.ft_cli.specs.meaning.Exit.{exit_of};
 
 use crate::ended::Ended;
 use ft_base::NoMemory;

@@ -1,20 +1,17 @@
-ghost use Rattle.std.specs.Prelude.{◌≡◌, ◌<◌, ◌-◌, ◌^◌, ◌++◌, ℕ, ℤ, List, [], ◌∷◌, codes, length, IsTrue, IfOk};
-ghost use Rattle.ft_cli.specs.Form.{IsGoodForm, SpellsForm, bounds_of};
-ghost use Rattle.ft_cli.specs.FormSet.{HasNames};
-ghost use Rattle.ft_cli.specs.Judgement.{IsJudgement};
-ghost use Rattle.ft_cli.specs.Report.{section_word};
-ghost use Rattle.ft_cli.specs.Rows.{IsSameOn};
-ghost use Rattle.ft_cli.specs.Verdict.{AreProper, DiffersAt, HasLarge, IsFirstImproperIn, defined_in, steady};
+ghost use Rattle.std.specs.Prelude.{◌≡◌, ◌<◌, ◌-◌, ◌^◌, [], ◌∷◌, length, IfOk, IfErr, OnOk};
+ghost use Rattle.ft_small.specs.meaning.Laws.{steady};
+ghost use Rattle.ft_small.specs.meaning.SetOf.{HasNames};
+ghost use Rattle.ft_small.specs.meaning.SmallSet.{IsGoodSmallSet, SpellsSmallSet};
+ghost use Rattle.ft_cli.specs.meaning.Judgement.{IsJudgement};
+ghost use Rattle.ft_cli.specs.stages.Judging.{DiffersFirstAt, DoesRefine, HasFewPoints, HasProperTables, IsReportOn};
 
-use crate::cursor::Refusal;
-use crate::form::Form;
-use crate::reader::read_form;
 use crate::report::Report;
-use crate::set::checked_set;
-use crate::verdict::{Finding, defined_in, examine};
-use ft_base::{List, NoMemory, Text};
-use ft_core::{History, Section};
-use ft_mean::{one_image, one_trace};
+use ft_base::NoMemory;
+use ft_core::History;
+use ft_small::{
+    Refusal, SmallSet, checked_set, first_difference, has_points, improper_title, read_small_set,
+    spelled_has_set, steady_is_allowed,
+};
 use std::alloc::Global;
 
 /// A list of four scans of this value.
@@ -38,52 +35,61 @@ fn one_scan(alloc: Global, value: i64) -> Result<History, NoMemory>
     Ok(list)
 }
 
-/// The word of a section and a space.
-fn section_head(alloc: Global, section: Section) -> Result<Text, NoMemory>
-    ensures { IfOk result (λ text. text ≡ section_word section ++ codes " ") }
+/// The small set that a text spells.
+fn spelled_set(alloc: Global, text: &[u8]) -> Result<SmallSet, Report>
+    requires { length text.now < 2 ^ 32 - 1 }
+    ensures spelled { IfOk result (SpellsSmallSet text.now) }
+    ensures named { IfOk result HasNames }
+    ensures stopped { IfErr result (IsJudgement text.now) }
 {
-    match section {
-        Section::In => List::copy_of(alloc, b"in "),
-        Section::Req => List::copy_of(alloc, b"req "),
-        Section::Sof => List::copy_of(alloc, b"sof "),
-        Section::Out => List::copy_of(alloc, b"out "),
+    match read_small_set(alloc, text) {
+        Ok(small) => Ok(small),
+        Err(Refusal::Other) => Err(Report::Unbuilt),
+        Err(Refusal::NoMemory) => Err(Report::NoMemory),
     }
 }
 
-/// The title of a table: the word of its section, and the name of the variable that it defines.
-fn title(alloc: Global, section: Section, name: &[u8]) -> Result<Text, NoMemory>
-    ensures { IfOk result (λ text. text ≡ section_word section ++ codes " " ++ name.now) }
+/// Stops where a range that is tried has too many values.
+fn with_few_points(small: &SmallSet) -> Result<(), Report>
+    requires { IsGoodSmallSet small.now }
+    ensures few { OnOk result (HasFewPoints small.now) }
+    ensures stopped { IfErr result (IsReportOn small.now) }
 {
-    let mut text = section_head(alloc, section)?;
-    text.extend(name)?;
-    Ok(text)
+    spelled_has_set();
+    if has_points(small) {
+        Err(Report::Points)
+    } else {
+        Ok(())
+    }
 }
 
-/// The report on a set whose first table that isn't proper is that of this section.
-fn improper(alloc: Global, form: &Form, section: Section) -> Result<Report, NoMemory>
-    requires good { IsGoodForm form.now }
-    requires few { HasLarge form.now → ⊥ }
-    requires first { IsFirstImproperIn form.now section }
-    ensures { IfOk result (λ report. (bytes : List ℕ) → SpellsForm bytes form.now → IsJudgement bytes report) }
+/// Stops at the first table that isn't proper.
+fn with_proper_tables(alloc: Global, small: &SmallSet) -> Result<(), Report>
+    requires good { IsGoodSmallSet small.now }
+    requires few { HasFewPoints small.now }
+    ensures proper { OnOk result (HasProperTables small.now) }
+    ensures stopped { IfErr result (IsReportOn small.now) }
 {
-    let name = defined_in(&form.variables, section).name.as_slice();
-    let title = title(alloc, section, name)?;
-    Ok(Report::Improper { title })
+    spelled_has_set();
+    let improper = improper_title(alloc, small)?;
+    match improper {
+        Some(title) => Err(Report::Improper { title }),
+        None => Ok(()),
+    }
 }
 
 /// The report on a set with proper tables whose design puts out something else at this monitored value.
-fn refuted(alloc: Global, form: Form, value: i64) -> Result<Report, NoMemory>
-    requires good { IsGoodForm form }
-    requires named { HasNames form }
-    requires few { HasLarge form → ⊥ }
-    requires proper { AreProper form }
-    requires differs { DiffersAt form.rows (bounds_of form.variables.monitored) value }
-    ensures { IfOk result (λ report. (bytes : List ℕ) → SpellsForm bytes form → IsJudgement bytes report) }
+fn refuted(alloc: Global, small: SmallSet, value: i64) -> Result<Report, NoMemory>
+    requires good { IsGoodSmallSet small }
+    requires named { HasNames small }
+    requires few { HasFewPoints small }
+    requires proper { HasProperTables small }
+    requires differs { DiffersFirstAt small value }
+    ensures { IfOk result (IsReportOn small) }
 {
-    one_trace();
-    one_image();
+    steady_is_allowed();
     let list = one_scan(alloc, value)?;
-    let tables = checked_set(alloc, form)?;
+    let tables = checked_set(alloc, small)?;
     Ok(Report::Refuted {
         tables,
         list,
@@ -91,47 +97,57 @@ fn refuted(alloc: Global, form: Form, value: i64) -> Result<Report, NoMemory>
     })
 }
 
-/// The report on a set with proper tables whose design puts out what the requirement asks for.
-fn verified(alloc: Global, form: Form) -> Result<Report, NoMemory>
-    requires good { IsGoodForm form }
-    requires named { HasNames form }
-    requires few { HasLarge form → ⊥ }
-    requires proper { AreProper form }
-    requires same { IsSameOn form.rows (bounds_of form.variables.monitored) }
-    ensures { IfOk result (λ report. (bytes : List ℕ) → SpellsForm bytes form → IsJudgement bytes report) }
+/// Stops where the design of a set with proper tables puts out something else than its requirement asks for. Else it gives the set back.
+fn without_difference(alloc: Global, small: SmallSet) -> Result<SmallSet, Report>
+    requires good { IsGoodSmallSet small }
+    requires named { HasNames small }
+    requires few { HasFewPoints small }
+    requires proper { HasProperTables small }
+    ensures same { IfOk result (λ kept. kept ≡ small) }
+    ensures right { OnOk result (DoesRefine small) }
+    ensures stopped { IfErr result (IsReportOn small) }
 {
-    one_trace();
-    one_image();
-    let list = four_scans(alloc, form.variables.monitored.lo.value())?;
-    let tables = checked_set(alloc, form)?;
-    Ok(Report::Verified { tables, list })
-}
-
-/// What a set of the form comes to.
-fn judge_form(alloc: Global, form: Form) -> Result<Report, NoMemory>
-    requires good { IsGoodForm form }
-    requires named { HasNames form }
-    ensures { IfOk result (λ report. (bytes : List ℕ) → SpellsForm bytes form → IsJudgement bytes report) }
-{
-    match examine(&form) {
-        Finding::Large => Ok(Report::Points),
-        Finding::Improper(section) => improper(alloc, &form, section),
-        Finding::Differs(value) => refuted(alloc, form, value),
-        Finding::Right => verified(alloc, form),
+    match first_difference(&small) {
+        Some(value) => Err(refuted(alloc, small, value)?),
+        None => Ok(small),
     }
 }
 
+/// The report on a set with proper tables whose design puts out what the requirement asks for.
+fn verified(alloc: Global, small: SmallSet) -> Result<Report, NoMemory>
+    requires good { IsGoodSmallSet small }
+    requires named { HasNames small }
+    requires few { HasFewPoints small }
+    requires proper { HasProperTables small }
+    requires right { DoesRefine small }
+    ensures { IfOk result (IsReportOn small) }
+{
+    steady_is_allowed();
+    let list = four_scans(alloc, small.variables.monitored.lo.value())?;
+    let tables = checked_set(alloc, small)?;
+    Ok(Report::Verified { tables, list })
+}
+
+/// The report on the set that a text spells, from the last stage of its verdict or from the one that stops it.
+fn verdict(alloc: Global, text: &[u8]) -> Result<Report, Report>
+    requires { length text.now < 2 ^ 32 - 1 }
+    ensures ended { IfOk result (IsJudgement text.now) }
+    ensures stopped { IfErr result (IsJudgement text.now) }
+{
+    let small = spelled_set(alloc, text)?;
+    with_few_points(&small)?;
+    with_proper_tables(alloc, &small)?;
+    let small = without_difference(alloc, small)?;
+    Ok(verified(alloc, small)?)
+}
+
 /// What the set that a text spells comes to. The text is shorter than 2^32 - 1 bytes.
-pub fn judge(alloc: Global, text: &[u8]) -> Report
+pub fn report_on_text(alloc: Global, text: &[u8]) -> Report
     requires { length text.now < 2 ^ 32 - 1 }
     ensures { IsJudgement text.now result }
 {
-    match read_form(alloc, text) {
-        Ok(form) => match judge_form(alloc, form) {
-            Ok(report) => report,
-            Err(NoMemory) => Report::NoMemory,
-        },
-        Err(Refusal::Other) => Report::Unbuilt,
-        Err(Refusal::NoMemory) => Report::NoMemory,
+    match verdict(alloc, text) {
+        Ok(report) => report,
+        Err(report) => report,
     }
 }

@@ -1,4 +1,4 @@
-use ft_base::Text;
+use ft_base::{NoMemory, Text};
 use ft_core::{History, Tables};
 use ft_parse::ParseFault;
 use ft_tree::Tree;
@@ -44,4 +44,15 @@ pub enum Report {
         list: History,
         scan: usize,
     },
+}
+
+impl From<NoMemory> for Report {
+    ghost use Rattle.std.specs.Prelude.{◌≡◌};
+    ghost use Rattle.ft_cli.specs.declared.report.Report.TheVariants.{NoMemory};
+
+    ghost from_gives = { λ _ report. report ≡ NoMemory };
+
+    fn from(_refused: NoMemory) -> Report {
+        Report::NoMemory
+    }
 }

@@ -1,34 +1,24 @@
 ghost use Rattle.std.specs.Prelude.{◌≡◌, ◌⊎◌, ◌<◌, ◌-◌, ◌^◌, Some, List, ℕ, drop, length, map, string_bytes};
-ghost use Rattle.std.specs.Option.{option_copied};
 ghost use Rattle.std.specs.List.{Contains};
-ghost use Rattle.ft_cli.specs.Report.{text_of};
-ghost use Rattle.ft_cli.specs.Judgement.{IsPrint};
 ghost use Rattle.ft_port.specs.Causes.{one_more};
-ghost use Rattle.ft_port.specs.Shelf.{OthersStay};
-ghost use Rattle.ft_cli.specs.Top.{file_after, set_file, print_file, report_on_error, use_of, NoOthers, IsPrintOutcome, PrintsAll, NamesKnown, IsFileOutcome, IsOutcome, HasStatus, Writes, HasHeadline, HasRefutation, IsComplete};
+ghost use Rattle.ft_cli.specs.meaning.Judgement.{IsPrint};
+ghost use Rattle.ft_cli.specs.meaning.Report.{text_of};
+ghost use Rattle.ft_cli.specs.Top.{command_of, file_of, use_of, verify, Means, NamesKnown, NoOthers, PrintsAll, IsOutcome, HasStatus, Writes, HasHeadline, HasRefutation, IsComplete};
+ghost use Rattle.ft_cli.specs.stages.Command.{asked_by, report_on_error, report_on_fault};
 
+use crate::command::{Command, command_of};
 use crate::ended::Ended;
-use crate::judging::judge;
-use crate::law::one_set;
+use crate::judging::report_on_text;
 use crate::rendering::{report_text, status_for};
 use crate::report::{Report, Which};
 use ft_base::NoMemory;
 use ft_parse::{ParseFault, parse};
 use ft_port::{Failed, FetchError, Shelf, Sink, fetch};
+use ft_small::one_set;
 use std::alloc::Global;
 
 /// The longest file of a set, in bytes.
 const SET_LIMIT: u64 = 4_194_304;
-
-/// The file F of two words, of which the first is this command.
-fn file_after<'w>(words: &'w [String], command: &str) -> Option<&'w str>
-    ensures { option_copied result ≡ file_after command.now (map string_bytes words.now) }
-{
-    match words {
-        [first, name] => (first.as_str() == command).then_some(name.as_str()),
-        _ => None,
-    }
-}
 
 /// The words after the first. Where the words are a form, the names of its files are among these.
 #[tactic(auto, using(crate::proofs::TopLemmas::known))]
@@ -53,17 +43,13 @@ fn unfetched(error: FetchError) -> Report
     }
 }
 
-/// What the set in this file comes to.
-fn report_on_file<S: Shelf>(alloc: Global, name: &str, shelf: &mut S) -> Report
-    requires { Contains (S.names shelf.old) name.now }
-    ensures outcome { IsFileOutcome (use_of (S.told shelf.old) (S.reads shelf.new) (S.faults shelf.old) (S.faults shelf.new) (S.reach shelf.new) name.now) result }
-    ensures others { OthersStay name.now (S.reach shelf.old) (S.reach shelf.new) (S.faults shelf.old) (S.faults shelf.new) (S.reads shelf.old) (S.reads shelf.new) }
-    ensures told { S.told shelf.new ≡ S.told shelf.old }
-    ensures names { S.names shelf.new ≡ S.names shelf.old }
+/// The report on a text that spells no tree.
+fn unread(fault: ParseFault) -> Report
+    ensures { result ≡ report_on_fault fault }
 {
-    match fetch(alloc, shelf, name, SET_LIMIT) {
-        Ok(text) => judge(alloc, text.as_slice()),
-        Err(error) => unfetched(error),
+    match fault {
+        ParseFault::NoMemory => Report::NoMemory,
+        ParseFault::Syntax { .. } | ParseFault::Limit { .. } => Report::Refused(fault),
     }
 }
 
@@ -74,24 +60,31 @@ fn print(alloc: Global, text: &[u8]) -> Report
 {
     match parse(alloc, text) {
         Ok(tree) => Report::Printed(tree),
-        Err(ParseFault::Syntax { place }) => Report::Refused(ParseFault::Syntax { place }),
-        Err(ParseFault::Limit { which, place }) => {
-            Report::Refused(ParseFault::Limit { which, place })
-        }
-        Err(ParseFault::NoMemory) => Report::NoMemory,
+        Err(fault) => unread(fault),
     }
 }
 
-/// What the tree in this file comes to.
-fn print_of_file<S: Shelf>(alloc: Global, name: &str, shelf: &mut S) -> Report
-    requires { Contains (S.names shelf.old) name.now }
-    ensures outcome { IsPrintOutcome (use_of (S.told shelf.old) (S.reads shelf.new) (S.faults shelf.old) (S.faults shelf.new) (S.reach shelf.new) name.now) result }
-    ensures others { OthersStay name.now (S.reach shelf.old) (S.reach shelf.new) (S.faults shelf.old) (S.faults shelf.new) (S.reads shelf.old) (S.reads shelf.new) }
+/// What a command says of a text. The text is shorter than 2^32 - 1 bytes.
+fn report_for(alloc: Global, command: &Command, text: &[u8]) -> Report
+    requires { length text.now < 2 ^ 32 - 1 }
+    ensures { Means (asked_by command.now) text.now result }
+{
+    match command {
+        Command::Verify(_) => report_on_text(alloc, text),
+        Command::Print(_) => print(alloc, text),
+    }
+}
+
+/// What a command says of its file.
+fn report_on_file<S: Shelf>(alloc: Global, command: &Command, shelf: &mut S) -> Report
+    requires { Contains (S.names shelf.old) (file_of (asked_by command.now)) }
+    ensures outcome { IsOutcome (Some (asked_by command.now)) (use_of (S.told shelf.old) (S.reads shelf.new) (S.faults shelf.old) (S.faults shelf.new) (S.reach shelf.new)) result }
+    ensures others { NoOthers (Some (asked_by command.now)) (S.reach shelf.old) (S.reach shelf.new) (S.faults shelf.old) (S.faults shelf.new) (S.reads shelf.old) (S.reads shelf.new) }
     ensures told { S.told shelf.new ≡ S.told shelf.old }
     ensures names { S.names shelf.new ≡ S.names shelf.old }
 {
-    match fetch(alloc, shelf, name, SET_LIMIT) {
-        Ok(text) => print(alloc, text.as_slice()),
+    match fetch(alloc, shelf, command.file(), SET_LIMIT) {
+        Ok(text) => report_for(alloc, command, text.as_slice()),
         Err(error) => unfetched(error),
     }
 }
@@ -99,16 +92,13 @@ fn print_of_file<S: Shelf>(alloc: Global, name: &str, shelf: &mut S) -> Report
 /// What the words ask for.
 fn report_on<S: Shelf>(alloc: Global, words: &[String], shelf: &mut S) -> Report
     requires { NamesKnown (map string_bytes words.now) (S.names shelf.old) }
-    ensures outcome { IsOutcome (set_file (map string_bytes words.now)) (print_file (map string_bytes words.now)) (use_of (S.told shelf.old) (S.reads shelf.new) (S.faults shelf.old) (S.faults shelf.new) (S.reach shelf.new)) result }
-    ensures others { NoOthers (set_file (map string_bytes words.now)) (print_file (map string_bytes words.now)) (S.reach shelf.old) (S.reach shelf.new) (S.faults shelf.old) (S.faults shelf.new) (S.reads shelf.old) (S.reads shelf.new) }
+    ensures outcome { IsOutcome (command_of (map string_bytes words.now)) (use_of (S.told shelf.old) (S.reads shelf.new) (S.faults shelf.old) (S.faults shelf.new) (S.reach shelf.new)) result }
+    ensures others { NoOthers (command_of (map string_bytes words.now)) (S.reach shelf.old) (S.reach shelf.new) (S.faults shelf.old) (S.faults shelf.new) (S.reads shelf.old) (S.reads shelf.new) }
     ensures told { S.told shelf.new ≡ S.told shelf.old }
     ensures names { S.names shelf.new ≡ S.names shelf.old }
 {
-    if let Some(name) = file_after(words, "verify") {
-        return report_on_file(alloc, name, shelf);
-    }
-    match file_after(words, "print") {
-        Some(name) => print_of_file(alloc, name, shelf),
+    match command_of(words) {
+        Some(command) => report_on_file(alloc, &command, shelf),
         None => Report::Usage,
     }
 }
@@ -147,12 +137,12 @@ fn answer<K: Sink>(alloc: Global, report: Report, sink: &mut K) -> Ended
 /// name are among the shelf's.
 pub fn run<S: Shelf, K: Sink>(alloc: Global, words: &[String], shelf: &mut S, sink: &mut K) -> Ended
     requires { NamesKnown (map string_bytes words.now) (S.names shelf.old) }
-    ensures headline { (name : List ℕ) → set_file (map string_bytes words.now) ≡ Some name → result.status ≡ 0 → HasHeadline (use_of (S.told shelf.old) (S.reads shelf.new) (S.faults shelf.old) (S.faults shelf.new) (S.reach shelf.new) name) result.report }
-    ensures refutation { (name : List ℕ) → set_file (map string_bytes words.now) ≡ Some name → result.status ≡ 1 → HasRefutation (use_of (S.told shelf.old) (S.reads shelf.new) (S.faults shelf.old) (S.faults shelf.new) (S.reach shelf.new) name) result.report }
-    ensures complete { IsComplete (set_file (map string_bytes words.now)) (use_of (S.told shelf.old) (S.reads shelf.new) (S.faults shelf.old) (S.faults shelf.new) (S.reach shelf.new)) result.report }
-    ensures prints { PrintsAll (set_file (map string_bytes words.now)) (print_file (map string_bytes words.now)) (use_of (S.told shelf.old) (S.reads shelf.new) (S.faults shelf.old) (S.faults shelf.new) (S.reach shelf.new)) result.report }
-    ensures outcome { IsOutcome (set_file (map string_bytes words.now)) (print_file (map string_bytes words.now)) (use_of (S.told shelf.old) (S.reads shelf.new) (S.faults shelf.old) (S.faults shelf.new) (S.reach shelf.new)) result.report }
-    ensures others { NoOthers (set_file (map string_bytes words.now)) (print_file (map string_bytes words.now)) (S.reach shelf.old) (S.reach shelf.new) (S.faults shelf.old) (S.faults shelf.new) (S.reads shelf.old) (S.reads shelf.new) }
+    ensures headline { (file : List ℕ) → command_of (map string_bytes words.now) ≡ Some (verify file) → result.status ≡ 0 → HasHeadline (use_of (S.told shelf.old) (S.reads shelf.new) (S.faults shelf.old) (S.faults shelf.new) (S.reach shelf.new) file) result.report }
+    ensures refutation { (file : List ℕ) → command_of (map string_bytes words.now) ≡ Some (verify file) → result.status ≡ 1 → HasRefutation (use_of (S.told shelf.old) (S.reads shelf.new) (S.faults shelf.old) (S.faults shelf.new) (S.reach shelf.new) file) result.report }
+    ensures complete { IsComplete (command_of (map string_bytes words.now)) (use_of (S.told shelf.old) (S.reads shelf.new) (S.faults shelf.old) (S.faults shelf.new) (S.reach shelf.new)) result.report }
+    ensures prints { PrintsAll (command_of (map string_bytes words.now)) (use_of (S.told shelf.old) (S.reads shelf.new) (S.faults shelf.old) (S.faults shelf.new) (S.reach shelf.new)) result.report }
+    ensures outcome { IsOutcome (command_of (map string_bytes words.now)) (use_of (S.told shelf.old) (S.reads shelf.new) (S.faults shelf.old) (S.faults shelf.new) (S.reach shelf.new)) result.report }
+    ensures others { NoOthers (command_of (map string_bytes words.now)) (S.reach shelf.old) (S.reach shelf.new) (S.faults shelf.old) (S.faults shelf.new) (S.reads shelf.old) (S.reads shelf.new) }
     ensures status { HasStatus (K.faults sink.old) (K.faults sink.new) result }
     ensures written { Writes (K.taken sink.old) (K.taken sink.new) result }
     ensures once { K.writes sink.new ≡ one_more (K.writes sink.old) }

@@ -1,5 +1,5 @@
 use Rattle.std.proofs.Common.{◌≡◌, ◌++◌, take}
-use Rattle.ft_cli.specs.Report.{trace_text}
+use Rattle.ft_cli.specs.meaning.Report.{trace_text}
 use Rattle.ft_cli.proofs.rendering.add_trace.Given as goal
 
 abbrev pub invariant-loop-scan : goal.invariant-loop-scan

@@ -1,9 +1,0 @@
-use Rattle.ft_cli.proofs.FormLemmas.{differ-then, differ-else}
-use Rattle.ft_cli.proofs.check.+do_differ.Goals as goal
-
-pub returns-then-not-stands_in : goal.returns-then-not-stands_in
-returns-then-not-stands_in t c =
-    differ-then (λ name. name.now) _ _ _ c.in-Some.ensures.cases.0 _ _ c.stands_in.ensures c.if-not-stands_in.true c.do_differ.ensures
-
-pub returns-else-not-stands_in : goal.returns-else-not-stands_in
-returns-else-not-stands_in t c = differ-else (λ name. name.now) _ _ _ c.in-Some.ensures.cases.0 _ c.stands_in.ensures c.if-not-stands_in.false

@@ -1,0 +1,3 @@
+-- What only the contracts of private functions and proofs cite.
+pub mod Command
+pub mod Judging

@@ -1,0 +1,13 @@
+pub mod LexemeLemmas
+pub mod LongerLemmas
+pub mod SpellingLemmas
+pub mod OneSetLemmas
+pub mod SetLemmas
+pub mod RangeLemmas
+pub mod CellRows
+pub mod AllowedLemmas
+pub mod CheckedLemmas
+pub mod NameLemmas
+pub mod ShortLemmas
+pub mod VerdictLemmas
+pub mod MeaningLemmas

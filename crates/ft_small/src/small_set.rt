@@ -1,0 +1,88 @@
+ghost use Rattle.std.specs.Prelude.{◌≡◌};
+ghost use Rattle.ft_small.specs.meaning.SmallSet.{bound_value};
+
+use ft_base::{List, Text};
+use ft_core::Rel;
+
+/// A number as it is written: its size, and whether a minus stands before it.
+#[derive(Clone, Copy, Drop)]
+pub struct Bound {
+    pub minus: bool,
+    pub size: u32,
+}
+
+impl Bound {
+    /// The number that it stands for.
+    pub fn value(self) -> i64
+        ensures { result ≡ bound_value self }
+    {
+        let size = i64::from(self.size);
+        if self.minus { -size } else { size }
+    }
+}
+
+/// When a row of a table holds.
+#[derive(Clone, Copy, Drop)]
+pub enum Guard {
+    /// Always.
+    Always,
+    /// Where the variable that the table reads compares so with the number.
+    Compare(Rel, Bound),
+}
+
+/// What a row of a table gives.
+#[derive(Clone, Copy, Drop)]
+pub enum Entry {
+    /// A number.
+    Number(Bound),
+    /// The value of the variable that the table reads.
+    Read,
+}
+
+/// A row of a table.
+#[derive(Clone, Copy, Drop)]
+pub struct Row {
+    pub guard: Guard,
+    pub entry: Entry,
+}
+
+/// A variable with its range and its value before scan 0.
+#[derive(Drop)]
+pub struct Variable {
+    pub name: Text,
+    pub lo: Bound,
+    pub hi: Bound,
+    pub init: Bound,
+}
+
+/// One variable of each of the four kinds.
+#[derive(Drop)]
+pub struct Variables {
+    pub monitored: Variable,
+    pub controlled: Variable,
+    pub input: Variable,
+    pub output: Variable,
+}
+
+/// The rows of the four tables.
+#[derive(Drop)]
+pub struct TableRows {
+    /// From the monitored variable to the input.
+    pub input: List<Row>,
+    /// From the monitored variable to the controlled one.
+    pub required: List<Row>,
+    /// From the input to the output.
+    pub design: List<Row>,
+    /// From the output to the controlled variable.
+    pub output: List<Row>,
+}
+
+/// The smallest sets: four variables, with one table of one column from each to the next.
+#[derive(Drop)]
+pub struct SmallSet {
+    pub name: Text,
+    pub period: u32,
+    pub variables: Variables,
+    pub rows: TableRows,
+    pub block: Text,
+}
