@@ -6,7 +6,7 @@ use Rattle.std.specs.Option.{option_map}
 use Rattle.std.specs.Str.{bytes_eq}
 use Rattle.std.proofs.lemmas.Option.{none-some, same_Some}
 use Rattle.ft_core.specs.declared.tables.Tables.{Tables}
-use Rattle.ft_mean.specs.Proper.{AllProper}
+use Rattle.ft_mean.specs.meaning.Proper.{AllProper}
 use Rattle.ft_port.specs.Causes.{one_more, Rose}
 use Rattle.ft_port.specs.Reads.{Read}
 use Rattle.ft_port.specs.Shelf.{OthersStay}
@@ -22,7 +22,7 @@ use Rattle.ft_small.specs.meaning.Laws.{SpellsOneSet}
 use Rattle.ft_small.specs.meaning.Finding.{HasPoints}
 use Rattle.ft_cli.specs.meaning.Judgement.{IsJudgement, IsPrint}
 use Rattle.ft_cli.specs.meaning.Report.{status_of}
-use Rattle.ft_cli.specs.Top.{Command, verify, print, file_of, Names, NoOthers, set_limit, Use, IsRead, CanBeRead, NamesKnown, HasRefutation, Means, IsOutcome, usage, read_fault, too_long, no_memory, told, HasStatus, HasHeadline, CanBeJudged, CanBePrinted, IsVerdictOn, IsComplete, PrintsAll}
+use Rattle.ft_cli.specs.Top.{Command, verify, print, file_of, Names, NoOthers, set_limit, Use, IsRead, CanBeRead, NamesKnown, HasRefutation, Means, IsOutcome, usage, read_fault, too_long, no_memory, content, HasStatus, HasHeadline, CanBeJudged, CanBePrinted, IsVerdictOn, IsComplete, PrintsAll}
 use Rattle.ft_cli.specs.stages.Command.{report_on_error, report_on_fault}
 use Rattle.ft_cli.specs.declared.report.Report.{Report}
 use Rattle.ft_cli.specs.declared.report.Report.TheVariants as report
@@ -54,13 +54,13 @@ pub ruleset known = (known-after)
 
 module _ (command : Command) (file : List ℕ) (is : file ≡ file_of command) where
   -- what is told of the bytes that were read is an outcome
-  pub told-outcome : (uses : List ℕ → Use) (bytes : List ℕ) (r : Report) → IsRead (uses file) bytes → Means command bytes r
+  pub content-outcome : (uses : List ℕ → Use) (bytes : List ℕ) (r : Report) → IsRead (uses file) bytes → Means command bytes r
       → IsOutcome (Some command) uses r
-  told-outcome uses bytes r read means = told command refl bytes (subst (λ name. IsRead (uses name) bytes) is read) means
+  content-outcome uses bytes r read means = content command refl bytes (subst (λ name. IsRead (uses name) bytes) is read) means
 
   -- and so is why a file wasn't fetched
   pub unfetched-outcome : (uses : List ℕ → Use) (e : FetchError) (r : Report) → r ≡ report_on_error e
-      → HasFetchCause (uses file).told (uses file).reads set_limit (uses file).faults_before (uses file).faults_now (uses file).reach e
+      → HasFetchCause (uses file).content (uses file).reads set_limit (uses file).faults_before (uses file).faults_now (uses file).reach e
       → IsOutcome (Some command) uses r
   unfetched-outcome uses fetching.Failed r same cause = read_fault file (sym is) cause same
   unfetched-outcome uses fetching.TooLong r same cause = too_long file (sym is) cause.0 same
@@ -137,14 +137,14 @@ differed u bytes (report.Refuted S list scan) file means one_is =
 
 module _ (command : Option Command) (uses : List ℕ → Use) (r : Report) (outcome : IsOutcome command uses r) where
   -- an outcome with a status below 4 tells what the bytes mean to the command
-  told-below : (n : ℕ) → n < 4 → status_of r ≡ n → (asked : Command) → command ≡ Some asked
+  content-below : (n : ℕ) → n < 4 → status_of r ≡ n → (asked : Command) → command ≡ Some asked
       → (bytes : List ℕ) × IsRead (uses (file_of asked)) bytes × Means asked bytes r
-  told-below n low status asked named = elim outcome [
+  content-below n low status asked named = elim outcome [
     | usage none is ↦ absurd (none-some asked (sym none ∙ named))
     | read_fault file names cause is ↦ let five = ap status_of is in absurd (omega (arith, low, status, five))
     | too_long file names cause is ↦ let ten = ap status_of is in absurd (omega (arith, low, status, ten))
     | no_memory is ↦ let seven = ap status_of is in absurd (omega (arith, low, status, seven))
-    | told other same bytes read means ↦
+    | content other same bytes read means ↦
         let e : other ≡ asked = same_Some other asked (sym same ∙ named) in
         (bytes, subst (λ c. IsRead (uses (file_of c)) bytes) e read, subst (λ c. Means c bytes r) e means)
   ]
@@ -161,13 +161,13 @@ module _ (sink_before sink_now : ℕ) (ended : Ended) (status : HasStatus sink_b
   pub headline : (file : List ℕ) → command ≡ Some (verify file) → ended.status ≡ 0 → HasHeadline (uses file) ended.report
   headline file named zero_is =
       let status = own 0 zero_is (λ e. omega (arith, e)) in
-      let (bytes, read, means) = told-below command uses ended.report outcome 0 (omega arith) status (verify file) named in
+      let (bytes, read, means) = content-below command uses ended.report outcome 0 (omega arith) status (verify file) named in
       earned (uses file) bytes ended.report read means status
 
   pub refutation : (file : List ℕ) → command ≡ Some (verify file) → ended.status ≡ 1 → HasRefutation (uses file) ended.report
   refutation file named one_is =
       let status = own 1 one_is (λ e. omega (arith, e)) in
-      let (bytes, read, means) = told-below command uses ended.report outcome 1 (omega arith) status (verify file) named in
+      let (bytes, read, means) = content-below command uses ended.report outcome 1 (omega arith) status (verify file) named in
       differed (uses file) bytes ended.report read means status
 
 -- what can be had is what was read
@@ -180,7 +180,7 @@ rises : (before now : ℕ) → now ≡ one_more before → Rose before now
 rises before now is = subst (λ n. one_more before ≤ n) (sym is) (omega arith)
 
 -- no read came too far
-not-long : (u : Use) (bytes : List ℕ) → CanBeRead u bytes → IsTooLong u.told u.reads set_limit u.reach → ⊥
+not-long : (u : Use) (bytes : List ℕ) → CanBeRead u bytes → IsTooLong u.content u.reads set_limit u.reach → ⊥
 not-long u bytes (inl can) long = omega (arith, long.longer bytes can.0, can.1)
 not-long u bytes (inr can) long = omega (arith, long.far, can.2)
 
@@ -191,17 +191,17 @@ module _ (command : Option Command) (uses : List ℕ → Use) (r : Report) (outc
   own-file : (file : List ℕ) → Names command file → file_of asked ≡ file
   own-file file names = subst (λ k. Names k file) named names
 
-  pub told-or-none : Means asked bytes r ⊎ (r ≡ report.NoMemory)
-  told-or-none = elim outcome [
+  pub content-or-none : Means asked bytes r ⊎ (r ≡ report.NoMemory)
+  content-or-none = elim outcome [
     | usage none is ↦ absurd (none-some asked (sym none ∙ named))
     | read_fault file names cause is ↦
         absurd (still (subst (λ f. Rose (uses f).faults_before (uses f).faults_now) (sym (own-file file names))
         (rises (uses file).faults_before (uses file).faults_now cause.once)))
     | too_long file names cause is ↦
         absurd (not-long (uses (file_of asked)) bytes can
-        (subst (λ f. IsTooLong (uses f).told (uses f).reads set_limit (uses f).reach) (sym (own-file file names)) cause))
+        (subst (λ f. IsTooLong (uses f).content (uses f).reads set_limit (uses f).reach) (sym (own-file file names)) cause))
     | no_memory is ↦ inr is
-    | told other same read file means ↦
+    | content other same read file means ↦
         let e : other ≡ asked = same_Some other asked (sym same ∙ named) in
         let had = read-is (uses (file_of asked)) bytes read can (subst (λ c. IsRead (uses (file_of c)) read) e file) in
         inl (subst (λ text. Means asked text r) (sym had) (subst (λ c. Means c read r) e means))
@@ -229,7 +229,7 @@ decided one_set u S can (report.Refuted T list scan) means = one_set can.bytes T
 pub complete : SpellsOneSet → (command : Option Command) (uses : List ℕ → Use) (r : Report) → IsOutcome command uses r
     → IsComplete command uses r
 complete one_set command uses r outcome file S named can still =
-    elim (told-or-none command uses r outcome (verify file) named can.bytes can.file still) [
+    elim (content-or-none command uses r outcome (verify file) named can.bytes can.file still) [
       | inl means ↦ decided one_set (uses file) S can r means
       | inr none ↦ subst (IsVerdictOn S) (sym none) tt
     ]
@@ -251,7 +251,7 @@ printed u tree can (report.Refuted S list scan) means = absurd means
 
 pub prints : (command : Option Command) (uses : List ℕ → Use) (r : Report) → IsOutcome command uses r → PrintsAll command uses r
 prints command uses r outcome file tree named can still =
-    elim (told-or-none command uses r outcome (print file) named can.bytes can.file still) [
+    elim (content-or-none command uses r outcome (print file) named can.bytes can.file still) [
       | inl means ↦ printed (uses file) tree can r means
       | inr none ↦ inr none
     ]

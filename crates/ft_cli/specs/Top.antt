@@ -3,7 +3,7 @@ use Rattle.std.specs.Prelude.{◌≡◌, ◌≢◌, ◌⊎◌, ◌++◌, take, l
 use Rattle.std.specs.List.{Contains}
 use Rattle.std.specs.Str.{bytes_eq}
 use Rattle.ft_core.specs.declared.tables.Tables.{Tables}
-use Rattle.ft_mean.specs.Proper.{AllProper}
+use Rattle.ft_mean.specs.meaning.Proper.{AllProper}
 use Rattle.ft_port.specs.Causes.{Rose}
 use Rattle.ft_port.specs.Fetching.{HasReadFault, IsFile, IsTooLong}
 use Rattle.ft_port.specs.Reads.{Read, given}
@@ -49,27 +49,27 @@ set_limit = 4194304
 -- what a call made of a file: what is told of it, the reads of it, the counts of those that failed before the call and now, and how far
 -- the reads came
 pub record Use : Type 0 where
-  pub told : Option (List ℕ)
+  pub content : Option (List ℕ)
   pub reads : List Read
   pub faults_before : ℕ
   pub faults_now : ℕ
   pub reach : ℕ
 
 -- the uses of the files of a shelf
-abbrev pub use_of : (told : List ℕ → Option (List ℕ)) → (reads : List ℕ → List Read) → (faults_before faults_now reach : List ℕ → ℕ)
+abbrev pub use_of : (content : List ℕ → Option (List ℕ)) → (reads : List ℕ → List Read) → (faults_before faults_now reach : List ℕ → ℕ)
     → List ℕ → Use
-use_of told reads faults_before faults_now reach name =
-    record { told = told name; reads = reads name; faults_before = faults_before name; faults_now = faults_now name; reach = reach name }
+use_of content reads faults_before faults_now reach name =
+    record { content = content name; reads = reads name; faults_before = faults_before name; faults_now = faults_now name; reach = reach name }
 
 -- the bytes are all that the file gave up to its end, and all of the told file
 abbrev pub IsRead : Use → List ℕ → Type 0
-IsRead u bytes = IsFile u.told u.reads set_limit bytes
+IsRead u bytes = IsFile u.content u.reads set_limit bytes
 
 -- the bytes could be had: the told file holds them and is no longer than the limit; or, where nothing is told, they were read, and no
 -- read came beyond the limit
 abbrev pub CanBeRead : Use → List ℕ → Type 0
 CanBeRead u bytes =
-    ((u.told ≡ Some bytes) × (length bytes ≤ set_limit)) ⊎ ((u.told ≡ None) × (bytes ≡ given u.reads) × (u.reach ≤ set_limit))
+    ((u.content ≡ Some bytes) × (length bytes ≤ set_limit)) ⊎ ((u.content ≡ None) × (bytes ≡ given u.reads) × (u.reach ≤ set_limit))
 
 -- what a report on these bytes means to a command
 abbrev pub Means : Command → (bytes : List ℕ) → Report → Type 0
@@ -87,10 +87,10 @@ pub data IsOutcome (command : Option Command) (uses : List ℕ → Use) (r : Rep
   usage : command ≡ None → r ≡ report.Usage → IsOutcome command uses r
   read_fault : (file : List ℕ) → Names command file → HasReadFault (uses file).reads (uses file).faults_before (uses file).faults_now
       → r ≡ report.ReadFault → IsOutcome command uses r
-  too_long : (file : List ℕ) → Names command file → IsTooLong (uses file).told (uses file).reads set_limit (uses file).reach
+  too_long : (file : List ℕ) → Names command file → IsTooLong (uses file).content (uses file).reads set_limit (uses file).reach
       → r ≡ report.TooLong Set → IsOutcome command uses r
   no_memory : r ≡ report.NoMemory → IsOutcome command uses r
-  told : (asked : Command) → command ≡ Some asked → (bytes : List ℕ) → IsRead (uses (file_of asked)) bytes → Means asked bytes r
+  content : (asked : Command) → command ≡ Some asked → (bytes : List ℕ) → IsRead (uses (file_of asked)) bytes → Means asked bytes r
       → IsOutcome command uses r
 
 -- the counts and the reads of every file that the words don't name stay

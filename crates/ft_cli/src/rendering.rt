@@ -2,7 +2,7 @@ ghost use Rattle.std.specs.Prelude.{◌≡◌, ◌*◌, ◌++◌, [], ◌∷◌,
 ghost use Rattle.std.specs.List.{flat_map, join_with_byte};
 ghost use Rattle.std.specs.Fmt.{decimal, signed_decimal};
 ghost use Rattle.ft_core.specs.declared.tables.VarKind.TheVariants.{Mon};
-ghost use Rattle.ft_core.specs.Kinds.{same_kind};
+ghost use Rattle.ft_core.specs.meaning.Kinds.{same_kind};
 ghost use Rattle.ft_cli.specs.meaning.Report.{line, obligations, set_line, trace_text, which_word, text_of, status_of, place_text, limit_word, fault_text};
 
 use crate::report::{Report, Which};

@@ -78,9 +78,9 @@ fn report_for(alloc: Global, command: &Command, text: &[u8]) -> Report
 /// What a command says of its file.
 fn report_on_file<S: Shelf>(alloc: Global, command: &Command, shelf: &mut S) -> Report
     requires { Contains (S.names shelf.old) (file_of (asked_by command.now)) }
-    ensures outcome { IsOutcome (Some (asked_by command.now)) (use_of (S.told shelf.old) (S.reads shelf.new) (S.faults shelf.old) (S.faults shelf.new) (S.reach shelf.new)) result }
+    ensures outcome { IsOutcome (Some (asked_by command.now)) (use_of (S.content shelf.old) (S.reads shelf.new) (S.faults shelf.old) (S.faults shelf.new) (S.reach shelf.new)) result }
     ensures others { NoOthers (Some (asked_by command.now)) (S.reach shelf.old) (S.reach shelf.new) (S.faults shelf.old) (S.faults shelf.new) (S.reads shelf.old) (S.reads shelf.new) }
-    ensures told { S.told shelf.new ≡ S.told shelf.old }
+    ensures content { S.content shelf.new ≡ S.content shelf.old }
     ensures names { S.names shelf.new ≡ S.names shelf.old }
 {
     match fetch(alloc, shelf, command.file(), SET_LIMIT) {
@@ -92,9 +92,9 @@ fn report_on_file<S: Shelf>(alloc: Global, command: &Command, shelf: &mut S) -> 
 /// What the words ask for.
 fn report_on<S: Shelf>(alloc: Global, words: &[String], shelf: &mut S) -> Report
     requires { NamesKnown (map string_bytes words.now) (S.names shelf.old) }
-    ensures outcome { IsOutcome (command_of (map string_bytes words.now)) (use_of (S.told shelf.old) (S.reads shelf.new) (S.faults shelf.old) (S.faults shelf.new) (S.reach shelf.new)) result }
+    ensures outcome { IsOutcome (command_of (map string_bytes words.now)) (use_of (S.content shelf.old) (S.reads shelf.new) (S.faults shelf.old) (S.faults shelf.new) (S.reach shelf.new)) result }
     ensures others { NoOthers (command_of (map string_bytes words.now)) (S.reach shelf.old) (S.reach shelf.new) (S.faults shelf.old) (S.faults shelf.new) (S.reads shelf.old) (S.reads shelf.new) }
-    ensures told { S.told shelf.new ≡ S.told shelf.old }
+    ensures content { S.content shelf.new ≡ S.content shelf.old }
     ensures names { S.names shelf.new ≡ S.names shelf.old }
 {
     match command_of(words) {
@@ -137,16 +137,16 @@ fn answer<K: Sink>(alloc: Global, report: Report, sink: &mut K) -> Ended
 /// name are among the shelf's.
 pub fn run<S: Shelf, K: Sink>(alloc: Global, words: &[String], shelf: &mut S, sink: &mut K) -> Ended
     requires { NamesKnown (map string_bytes words.now) (S.names shelf.old) }
-    ensures headline { (file : List ℕ) → command_of (map string_bytes words.now) ≡ Some (verify file) → result.status ≡ 0 → HasHeadline (use_of (S.told shelf.old) (S.reads shelf.new) (S.faults shelf.old) (S.faults shelf.new) (S.reach shelf.new) file) result.report }
-    ensures refutation { (file : List ℕ) → command_of (map string_bytes words.now) ≡ Some (verify file) → result.status ≡ 1 → HasRefutation (use_of (S.told shelf.old) (S.reads shelf.new) (S.faults shelf.old) (S.faults shelf.new) (S.reach shelf.new) file) result.report }
-    ensures complete { IsComplete (command_of (map string_bytes words.now)) (use_of (S.told shelf.old) (S.reads shelf.new) (S.faults shelf.old) (S.faults shelf.new) (S.reach shelf.new)) result.report }
-    ensures prints { PrintsAll (command_of (map string_bytes words.now)) (use_of (S.told shelf.old) (S.reads shelf.new) (S.faults shelf.old) (S.faults shelf.new) (S.reach shelf.new)) result.report }
-    ensures outcome { IsOutcome (command_of (map string_bytes words.now)) (use_of (S.told shelf.old) (S.reads shelf.new) (S.faults shelf.old) (S.faults shelf.new) (S.reach shelf.new)) result.report }
+    ensures headline { (file : List ℕ) → command_of (map string_bytes words.now) ≡ Some (verify file) → result.status ≡ 0 → HasHeadline (use_of (S.content shelf.old) (S.reads shelf.new) (S.faults shelf.old) (S.faults shelf.new) (S.reach shelf.new) file) result.report }
+    ensures refutation { (file : List ℕ) → command_of (map string_bytes words.now) ≡ Some (verify file) → result.status ≡ 1 → HasRefutation (use_of (S.content shelf.old) (S.reads shelf.new) (S.faults shelf.old) (S.faults shelf.new) (S.reach shelf.new) file) result.report }
+    ensures complete { IsComplete (command_of (map string_bytes words.now)) (use_of (S.content shelf.old) (S.reads shelf.new) (S.faults shelf.old) (S.faults shelf.new) (S.reach shelf.new)) result.report }
+    ensures prints { PrintsAll (command_of (map string_bytes words.now)) (use_of (S.content shelf.old) (S.reads shelf.new) (S.faults shelf.old) (S.faults shelf.new) (S.reach shelf.new)) result.report }
+    ensures outcome { IsOutcome (command_of (map string_bytes words.now)) (use_of (S.content shelf.old) (S.reads shelf.new) (S.faults shelf.old) (S.faults shelf.new) (S.reach shelf.new)) result.report }
     ensures others { NoOthers (command_of (map string_bytes words.now)) (S.reach shelf.old) (S.reach shelf.new) (S.faults shelf.old) (S.faults shelf.new) (S.reads shelf.old) (S.reads shelf.new) }
     ensures status { HasStatus (K.faults sink.old) (K.faults sink.new) result }
     ensures written { Writes (K.taken sink.old) (K.taken sink.new) result }
     ensures once { K.writes sink.new ≡ one_more (K.writes sink.old) }
-    ensures told { S.told shelf.new ≡ S.told shelf.old }
+    ensures content { S.content shelf.new ≡ S.content shelf.old }
     ensures names { S.names shelf.new ≡ S.names shelf.old }
 {
     one_set();

@@ -11,9 +11,9 @@ use Rattle.ft_core.specs.declared.tables.Grid.{Grid}
 use Rattle.ft_core.specs.declared.tables.Grid.TheVariants.{Normal, Inverted, Vector}
 use Rattle.ft_core.specs.declared.term.Term.{Term}
 use Rattle.ft_core.specs.declared.term.Cond.{Cond}
-use Rattle.ft_core.specs.Gathering.{normal_reads, inverted_reads, row_reads, if_target, grid_reads_for, table_reads_for}
-use Rattle.ft_core.specs.Grids.{Cell, row_cells, cells_for, defines, is_section, is_for, is_shaped}
-use Rattle.ft_core.specs.Reads.{Read, term_reads, cond_reads, cell_reads}
+use Rattle.ft_core.specs.walk.Gathering.{normal_reads, inverted_reads, row_reads, if_target, grid_reads_for, table_reads_for}
+use Rattle.ft_core.specs.meaning.Grids.{Cell, row_cells, cells_for, defines, is_section, is_for, is_shaped}
+use Rattle.ft_core.specs.meaning.Reads.{Read, term_reads, cond_reads, cell_reads}
 
 -- what stands in a column of a row: the conditions and the term
 abbrev Column : Type 0

@@ -3,11 +3,11 @@ use Rattle.std.proofs.Common.{arith, ◌≡◌, ◌∙◌, sym, ap, subst, refl,
 use Rattle.std.proofs.lemmas.Bool.{cases_eq, cases_lt}
 use Rattle.std.proofs.lemmas.Option.{slice_get_within, slice_get-get_or, get_or_from_slice_get, same_Some}
 use Rattle.std.proofs.lemmas.List.{get_or_past, length-set, length-append, length-reverse, length-replicate, nil_from_length}
-use Rattle.ft_core.specs.Order.{ReadsItem, IsCircle}
+use Rattle.ft_core.specs.meaning.Order.{ReadsItem, IsCircle}
 use Rattle.std.proofs.lemmas.List.Sums.{sum_by-set}
 use Rattle.ft_core.specs.declared.circle.Search.{Search}
-use Rattle.ft_core.specs.Circles.{Leads, one, more, IsSearch, Searches, AreRead, IsEnd, IsWayBack, IsMet, AreFollowed, unseen}
-use Rattle.ft_core.specs.Places.{one-at, of-replicate, on-left, of-push, at-end, of-set, set-here, set-there, contained, place-of, some-at}
+use Rattle.ft_core.specs.walk.Circles.{Leads, one, more, IsSearch, Searches, AreRead, IsEnd, IsWayBack, IsMet, AreFollowed, unseen}
+use Rattle.ft_core.specs.laws.Places.{one-at, of-replicate, on-left, of-push, at-end, of-set, set-here, set-there, contained, place-of, some-at}
 use Rattle.ft_core.proofs.PlaceLemmas.{of-single, of-reverse}
 
 -- one way after another

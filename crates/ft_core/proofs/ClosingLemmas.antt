@@ -6,10 +6,10 @@ use Rattle.std.proofs.lemmas.List.{length-take-le}
 use Rattle.ft_core.specs.declared.walk.Stage.{Stage}
 use Rattle.ft_core.specs.declared.walk.Stage.TheVariants.{New, Open, Done}
 use Rattle.ft_core.specs.declared.walk.Component.{Component}
-use Rattle.ft_core.specs.Order.{ReadsItem}
-use Rattle.ft_core.specs.Circles.{Leads, one}
-use Rattle.ft_core.specs.Walk.{IsIn, finished, ahead, waiting, in_hand, IsWalk, IsNew, IsTop, IsLeastAfter, Finishes, work}
-use Rattle.ft_core.specs.Places.{one-at, none-at, on-left, some-at}
+use Rattle.ft_core.specs.meaning.Order.{ReadsItem}
+use Rattle.ft_core.specs.walk.Circles.{Leads, one}
+use Rattle.ft_core.specs.walk.Walk.{IsIn, finished, ahead, waiting, in_hand, IsWalk, IsNew, IsTop, IsLeastAfter, Finishes, work}
+use Rattle.ft_core.specs.laws.Places.{one-at, none-at, on-left, some-at}
 use Rattle.ft_core.proofs.PlaceLemmas.{of-single, of-append, on-right, of-take, in-take, of-drop, in-drop}
 use Rattle.ft_core.proofs.CircleLemmas.{leads-on}
 use Rattle.ft_core.proofs.WalkLemmas.{leads-top, work-le}

@@ -9,9 +9,9 @@ use Rattle.ft_core.specs.declared.term.Term.{Term}
 use Rattle.ft_core.specs.declared.term.Cond.{Cond}
 use Rattle.ft_core.specs.declared.tables.Grid.{Grid}
 use Rattle.ft_core.specs.declared.tables.Grid.TheVariants.{Vector}
-use Rattle.ft_core.specs.Gathering.{Longer, grid_reads_for, if_target, items_in, row_reads}
-use Rattle.ft_core.specs.Items.{item_read}
-use Rattle.ft_core.specs.Reads.{Read, term_reads, cond_reads}
+use Rattle.ft_core.specs.walk.Gathering.{Longer, grid_reads_for, if_target, items_in, row_reads}
+use Rattle.ft_core.specs.meaning.Items.{item_read}
+use Rattle.ft_core.specs.meaning.Reads.{Read, term_reads, cond_reads}
 use Rattle.ft_core.proofs.ReadLemmas.{flat_map-next}
 
 pub longer-same : (f g : ℕ → List ℕ) (old new : List (List ℕ)) → ((k : ℕ) → g k ≡ f k) → Longer f old new → Longer g old new

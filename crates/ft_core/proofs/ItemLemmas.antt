@@ -11,15 +11,15 @@ use Rattle.std.proofs.Math.Logic.{∥∥₁_elim}
 use Rattle.ft_core.specs.declared.tables.Memory.{Memory}
 use Rattle.ft_core.specs.declared.tables.Table.{Table}
 use Rattle.ft_core.specs.declared.tables.Var.{Var}
-use Rattle.ft_core.specs.Gathering.{AreVariableReads, items_in, table_reads_for}
-use Rattle.ft_core.specs.Grids.{is_shaped}
-use Rattle.ft_core.specs.Items.{ArePlainReads, IsScanOrder, ReadsWithin, item, item_read}
-use Rattle.ft_core.specs.Order.{AreItems, IsCircle, IsOrder, ReadsItem}
-use Rattle.ft_core.specs.Reads.{Read, at_now, at_before, of_memory, of_age, memory_reads}
-use Rattle.ft_core.specs.Sound.{HasOrder, item_reads, is_current}
+use Rattle.ft_core.specs.walk.Gathering.{AreVariableReads, items_in, table_reads_for}
+use Rattle.ft_core.specs.meaning.Grids.{is_shaped}
+use Rattle.ft_core.specs.meaning.Items.{ArePlainReads, IsScanOrder, ReadsWithin, item, item_read}
+use Rattle.ft_core.specs.meaning.Order.{AreItems, IsCircle, IsOrder, ReadsItem}
+use Rattle.ft_core.specs.meaning.Reads.{Read, at_now, at_before, of_memory, of_age, memory_reads}
+use Rattle.ft_core.specs.checked.Sound.{HasOrder, item_reads, is_current}
 use Rattle.ft_core.proofs.CellReads.{tables-in, tables-out}
 use Rattle.ft_core.proofs.OrderLaws.{excludes}
-use Rattle.ft_core.specs.Places.{some-at}
+use Rattle.ft_core.specs.laws.Places.{some-at}
 
 -- the items in a list of reads
 module _ (vars memories : ℕ) where

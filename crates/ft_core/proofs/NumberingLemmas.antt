@@ -5,11 +5,11 @@ use Rattle.std.proofs.lemmas.List.{length-set, length-replicate, get_or-map, len
 use Rattle.std.proofs.lemmas.Option.{slice_get_within, slice_get-get_or, get_or_from_slice_get, same_Some}
 use Rattle.ft_core.specs.declared.tables.Memory.{Memory}
 use Rattle.ft_core.specs.declared.tables.Table.{Table}
-use Rattle.ft_core.specs.Gathering.{AreRenumbered}
-use Rattle.ft_core.specs.Items.{ArePlainReads, AreReads, IsNumbering, ReadsByNumber}
-use Rattle.ft_core.specs.Order.{AreItems, ReadsItem}
+use Rattle.ft_core.specs.walk.Gathering.{AreRenumbered}
+use Rattle.ft_core.specs.meaning.Items.{ArePlainReads, AreReads, IsNumbering, ReadsByNumber}
+use Rattle.ft_core.specs.meaning.Order.{AreItems, ReadsItem}
 use Rattle.ft_core.proofs.ItemLemmas.{are-items}
-use Rattle.ft_core.specs.Places.{set-here, set-there, some-at, place-of, contained}
+use Rattle.ft_core.specs.laws.Places.{set-here, set-there, some-at, place-of, contained}
 
 -- the numbers of what an item reads
 abbrev list_of : List ℕ → List (List ℕ) → ℕ → List ℕ

@@ -4,8 +4,8 @@ use Rattle.std.proofs.lemmas.Bool.{eq-eqb, ne_eqb, eqb-true, cases_Bool}
 use Rattle.std.proofs.lemmas.Option.{slice_get_within, same_Some}
 use Rattle.std.specs.List.{IsDistinct, AllByRecursion, list_any}
 use Rattle.std.proofs.lemmas.Map.Steps.{length-le_from_distinct_below}
-use Rattle.ft_core.specs.Order.{IsOrder, IsCircle, HasRank, OrderGivesRank, RankExcludesCircles}
-use Rattle.ft_core.specs.Circles.{Leads, one, more}
+use Rattle.ft_core.specs.meaning.Order.{IsOrder, IsCircle, HasRank, OrderGivesRank, RankExcludesCircles}
+use Rattle.ft_core.specs.walk.Circles.{Leads, one, more}
 use Rattle.ft_core.proofs.CircleLemmas.{first-back, reader-is-item}
 
 -- along a way the rank falls

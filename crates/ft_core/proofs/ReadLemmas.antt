@@ -14,10 +14,10 @@ use Rattle.ft_core.specs.declared.term.Term.TheVariants.{Num, Now, Prev, Age, Ne
 use Rattle.ft_core.specs.declared.term.Cond.{Cond}
 use Rattle.ft_core.specs.declared.term.Cond.TheOpen as cl
 use Rattle.ft_core.specs.declared.term.Cond.TheVariants.{Yes, No, Compare, Memory, Not, And, Or, rolls-Yes, rolls-No, rolls-Compare, rolls-Memory, rolls-Not, rolls-And, rolls-Or}
-use Rattle.ft_core.specs.Gathering.{Adds, items_in}
-use Rattle.ft_core.specs.Items.{item_read}
-use Rattle.ft_core.specs.Reads.{Read, at_now, at_before, of_memory, of_age, term_reads, cond_reads}
-use Rattle.ft_core.specs.Equations.{reads-Num, reads-Now, reads-Prev, reads-Age, reads-Neg, reads-Add, reads-Sub, reads-Times, reads-Div, reads-Yes, reads-No, reads-Compare, reads-Memory, reads-Not, reads-And, reads-Or}
+use Rattle.ft_core.specs.walk.Gathering.{Adds, items_in}
+use Rattle.ft_core.specs.meaning.Items.{item_read}
+use Rattle.ft_core.specs.meaning.Reads.{Read, at_now, at_before, of_memory, of_age, term_reads, cond_reads}
+use Rattle.ft_core.specs.laws.Equations.{reads-Num, reads-Now, reads-Prev, reads-Age, reads-Neg, reads-Add, reads-Sub, reads-Times, reads-Div, reads-Yes, reads-No, reads-Compare, reads-Memory, reads-Not, reads-And, reads-Or}
 
 -- the forms that read the same of their parts
 pub reads-either : (t a b : Term) → (t ≡ Add a b) ⊎ (t ≡ Sub a b) → term_reads t ≡ term_reads a ++ term_reads b

@@ -16,13 +16,13 @@ use Rattle.ft_core.specs.declared.tables.Side.{Side}
 use Rattle.ft_core.specs.declared.tables.Side.TheVariants as side
 use Rattle.ft_core.specs.declared.term.Term.{Term}
 use Rattle.ft_core.specs.declared.term.Cond.{Cond}
-use Rattle.ft_core.specs.Gathering.{grid_reads_for, if_target, is_of_side, row_reads, table_reads_for}
-use Rattle.ft_core.specs.Grids.{defines, is_for, is_section, cells_for}
-use Rattle.ft_core.specs.Items.{AreReads, IsNumbering, OrderGivesSetOrder, ReadsWhatIsThere, item, item_read}
-use Rattle.ft_core.specs.Kinds.{Kinds, defined_kinds, is_of, side_kinds}
-use Rattle.ft_core.specs.Order.{HasRank, IsOrder, ReadsItem}
-use Rattle.ft_core.specs.Reads.{Read, at_now, at_before, of_memory, of_age, cond_reads, term_reads, grid_reads, memory_reads, cell_reads}
-use Rattle.ft_core.specs.Sound.{HasOrder, IsRank, is_current, is_memory_of, item_reads, may_read, on_side}
+use Rattle.ft_core.specs.walk.Gathering.{grid_reads_for, if_target, is_of_side, row_reads, table_reads_for}
+use Rattle.ft_core.specs.meaning.Grids.{defines, is_for, is_section, cells_for}
+use Rattle.ft_core.specs.meaning.Items.{AreReads, IsNumbering, OrderGivesSetOrder, ReadsWhatIsThere, item, item_read}
+use Rattle.ft_core.specs.meaning.Kinds.{Kinds, defined_kinds, is_of, side_kinds}
+use Rattle.ft_core.specs.meaning.Order.{HasRank, IsOrder, ReadsItem}
+use Rattle.ft_core.specs.meaning.Reads.{Read, at_now, at_before, of_memory, of_age, cond_reads, term_reads, grid_reads, memory_reads, cell_reads}
+use Rattle.ft_core.specs.checked.Sound.{HasOrder, IsRank, is_current, is_memory_of, item_reads, may_read, on_side}
 use Rattle.ft_core.proofs.CellReads.{tables-out}
 use Rattle.ft_core.proofs.ItemLemmas.{read-below}
 use Rattle.ft_core.proofs.OrderLaws.{gives-rank}

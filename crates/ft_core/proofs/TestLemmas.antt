@@ -21,17 +21,17 @@ use Rattle.ft_core.specs.declared.tables.Take.TheVariants as take
 use Rattle.ft_core.specs.declared.tables.Block.{Block}
 use Rattle.ft_core.specs.declared.term.Cond.{Cond}
 use Rattle.ft_core.specs.declared.term.Term.{Term}
-use Rattle.ft_core.specs.Blocks.{AreBlocks, may_show, may_take, names_invariant}
-use Rattle.ft_core.specs.Checked.{AreChecked, IsChecked}
-use Rattle.ft_core.specs.CheckedTests.{CheckedByTests, PassesChecks, all_differ, has_targets, is_block, is_bounded, is_bounded_memory, is_enum_range, is_same_place, is_same_take, is_shown, is_typed}
-use Rattle.ft_core.specs.Distinct.{AreDistinct}
-use Rattle.ft_core.specs.Grids.{defines}
-use Rattle.ft_core.specs.Kinds.{controlled, defined_kinds, is_of}
-use Rattle.ft_core.specs.Names.{AreNamed, declared_names, is_set_name}
-use Rattle.ft_core.specs.Places.{place-of}
-use Rattle.ft_core.specs.Reads.{cond_reads}
-use Rattle.ft_core.specs.Size.{is_sized}
-use Rattle.ft_core.specs.Short.{is_short}
+use Rattle.ft_core.specs.checked.Blocks.{AreBlocks, may_show, may_take, names_invariant}
+use Rattle.ft_core.specs.checked.Checked.{AreChecked, IsChecked}
+use Rattle.ft_core.specs.laws.CheckedTests.{CheckedByTests, PassesChecks, all_differ, has_targets, is_block, is_bounded, is_bounded_memory, is_enum_range, is_same_place, is_same_take, is_shown, is_typed}
+use Rattle.ft_core.specs.checked.Distinct.{AreDistinct}
+use Rattle.ft_core.specs.meaning.Grids.{defines}
+use Rattle.ft_core.specs.meaning.Kinds.{controlled, defined_kinds, is_of}
+use Rattle.ft_core.specs.checked.Names.{AreNamed, declared_names, is_set_name}
+use Rattle.ft_core.specs.laws.Places.{place-of}
+use Rattle.ft_core.specs.meaning.Reads.{cond_reads}
+use Rattle.ft_core.specs.checked.Size.{is_sized}
+use Rattle.ft_core.specs.checked.Short.{is_short}
 
 -- what is tested of all is so of each
 at-place : {A : Type 0} (test : A → Bool) (xs : List A) → list_all test xs ≡ true → (k : ℕ) (x : A) → slice_get xs k ≡ Some x → test x ≡ true

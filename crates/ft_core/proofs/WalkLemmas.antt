@@ -6,10 +6,10 @@ use Rattle.std.proofs.lemmas.List.{length-set, length-append, length-take-le, ta
 use Rattle.ft_core.specs.declared.walk.Stage.{Stage}
 use Rattle.ft_core.specs.declared.walk.Stage.TheVariants.{New, Open, Done}
 use Rattle.ft_core.specs.declared.walk.Component.{Component}
-use Rattle.ft_core.specs.Order.{ReadsItem}
-use Rattle.ft_core.specs.Circles.{Leads, one, more}
-use Rattle.ft_core.specs.Walk.{IsIn, IsLone, finished, ahead, waiting, in_hand, IsWalk, IsNew, IsTop, Joins, IsLeast, Finishes, weight, work}
-use Rattle.ft_core.specs.Places.{one-at, none-at, on-left, of-push, at-end, of-set, set-here, set-there, contained, place-of, some-at}
+use Rattle.ft_core.specs.meaning.Order.{ReadsItem}
+use Rattle.ft_core.specs.walk.Circles.{Leads, one, more}
+use Rattle.ft_core.specs.walk.Walk.{IsIn, IsLone, finished, ahead, waiting, in_hand, IsWalk, IsNew, IsTop, Joins, IsLeast, Finishes, weight, work}
+use Rattle.ft_core.specs.laws.Places.{one-at, none-at, on-left, of-push, at-end, of-set, set-here, set-there, contained, place-of, some-at}
 use Rattle.ft_core.proofs.PlaceLemmas.{of-append, on-right, of-take, in-take}
 use Rattle.ft_core.proofs.CircleLemmas.{leads-on}
 

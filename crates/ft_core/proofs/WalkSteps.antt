@@ -7,10 +7,10 @@ use Rattle.ft_core.specs.declared.walk.Stage.{Stage}
 use Rattle.ft_core.specs.declared.walk.Stage.TheVariants.{New, Open, Done}
 use Rattle.ft_core.specs.declared.walk.Component.{Component}
 use Rattle.ft_core.specs.declared.walk.Walk.{Walk}
-use Rattle.ft_core.specs.Order.{ReadsItem, IsOrder, IsCircle, IsFirstCircle}
-use Rattle.ft_core.specs.Circles.{Leads, one, more}
-use Rattle.ft_core.specs.Walk.{IsIn, IsLone, IsWalk, Walks, Advances, IsNew, IsOpened, Joins, IsTop, left, work}
-use Rattle.ft_core.specs.Places.{one-at, none-at, of-set, set-here, some-at}
+use Rattle.ft_core.specs.meaning.Order.{ReadsItem, IsOrder, IsCircle, IsFirstCircle}
+use Rattle.ft_core.specs.walk.Circles.{Leads, one, more}
+use Rattle.ft_core.specs.walk.Walk.{IsIn, IsLone, IsWalk, Walks, Advances, IsNew, IsOpened, Joins, IsTop, left, work}
+use Rattle.ft_core.specs.laws.Places.{one-at, none-at, of-set, set-here, some-at}
 use Rattle.ft_core.proofs.CircleLemmas.{comes-back, start-is-item, stays}
 use Rattle.ft_core.proofs.WalkLemmas.{opened, joined, filled, work-open}
 

@@ -2,8 +2,8 @@
 // reads the start is found. Each item keeps the place of one that reads it, and these places give the way.
 
 ghost use Rattle.std.specs.Prelude.{◌≡◌, ◌<◌, ◌+◌, length, slice_get, Some, IfOk, OnOk, IsTrue, IsFalse};
-ghost use Rattle.ft_core.specs.Order.{AreItems, IsCircle};
-ghost use Rattle.ft_core.specs.Circles.{Leads, AreRead, IsEnd, Searches, unseen, IsMet};
+ghost use Rattle.ft_core.specs.meaning.Order.{AreItems, IsCircle};
+ghost use Rattle.ft_core.specs.walk.Circles.{Leads, AreRead, IsEnd, Searches, unseen, IsMet};
 
 use ft_base::{List, NoMemory};
 use std::alloc::Global;

@@ -1,8 +1,8 @@
 ghost use Rattle.std.specs.Prelude.{length, IfOk};
-ghost use Rattle.ft_core.specs.Items.{IsScanOrder};
+ghost use Rattle.ft_core.specs.meaning.Items.{IsScanOrder};
 
+use crate::gathering::plain_reads;
 use crate::ordering::{OrderFault, order};
-use crate::reading::plain_reads;
 use crate::tables::Tables;
 use ft_base::{List, NoMemory};
 use std::alloc::Global;

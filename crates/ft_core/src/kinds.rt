@@ -1,5 +1,5 @@
 ghost use Rattle.std.specs.Prelude.{◌≡◌};
-ghost use Rattle.ft_core.specs.Kinds.{defined_kinds, given_kinds, section_of, side_kinds};
+ghost use Rattle.ft_core.specs.meaning.Kinds.{defined_kinds, given_kinds, section_of, side_kinds};
 
 use crate::tables::{Section, Side, Var, VarKind};
 

@@ -2,6 +2,7 @@
 #![tactic(auto)]
 
 mod circle;
+mod gathering;
 mod history;
 mod items;
 mod kinds;
@@ -10,7 +11,6 @@ mod law;
 mod numbering;
 mod ordering;
 mod place;
-mod reading;
 mod tables;
 mod term;
 mod walk;

@@ -1,12 +1,12 @@
 //! What the variables and memories of a set read of each other, by a numbering of the caller's.
 ghost use Rattle.std.specs.Prelude.{◌≡◌, ◌≤◌, ◌<◌, ◌+◌, ℕ, length, map, slice_index_or, IsTrue, IfOk};
 ghost use Rattle.std.specs.List.{Contains, list_all};
-ghost use Rattle.ft_core.specs.Gathering.{AreRenumbered};
-ghost use Rattle.ft_core.specs.Grids.{is_shaped};
-ghost use Rattle.ft_core.specs.Items.{AreReads, IsNumbering, OrderGivesSetOrder};
-ghost use Rattle.ft_core.specs.Order.{AreItems};
+ghost use Rattle.ft_core.specs.walk.Gathering.{AreRenumbered};
+ghost use Rattle.ft_core.specs.meaning.Grids.{is_shaped};
+ghost use Rattle.ft_core.specs.meaning.Items.{AreReads, IsNumbering, OrderGivesSetOrder};
+ghost use Rattle.ft_core.specs.meaning.Order.{AreItems};
 
-use crate::reading::{empty_lists, plain_reads};
+use crate::gathering::{empty_lists, plain_reads};
 use crate::tables::{Memory, Table};
 use ft_base::{List, NoMemory};
 use std::alloc::Global;

@@ -1,5 +1,5 @@
 ghost use Rattle.std.specs.Prelude.{◌≡◌, ◌≤◌, ℕ, List, length, IfOk, IfErr};
-ghost use Rattle.ft_core.specs.Order.{AreItems, IsOrder, IsCircle, IsCause, HasRank, OrderGivesRank, RankExcludesCircles};
+ghost use Rattle.ft_core.specs.meaning.Order.{AreItems, IsOrder, IsCircle, IsCause, HasRank, OrderGivesRank, RankExcludesCircles};
 
 use crate::circle::circle_through;
 use crate::walk::Walk;

@@ -1,6 +1,6 @@
 //! Where the value of a variable stands in a scan.
 ghost use Rattle.std.specs.Prelude.{◌≡◌, IsTrue};
-ghost use Rattle.ft_core.specs.Kinds.{given_kinds, image_kinds, is_of, makes_image, of_kind, place_of};
+ghost use Rattle.ft_core.specs.meaning.Kinds.{given_kinds, image_kinds, is_of, makes_image, of_kind, place_of};
 
 use crate::tables::{Section, Side, Tables, VarKind};
 

@@ -1,8 +1,8 @@
 ghost use Rattle.std.specs.Prelude.{◌≡◌};
-ghost use Rattle.ft_core.specs.Grids.{is_section};
-ghost use Rattle.ft_core.specs.Inits.{init_of};
-ghost use Rattle.ft_core.specs.Sound.{IsSound};
-ghost use Rattle.ft_core.specs.Checked.{IsChecked, checked_prop};
+ghost use Rattle.ft_core.specs.meaning.Grids.{is_section};
+ghost use Rattle.ft_core.specs.meaning.Inits.{init_of};
+ghost use Rattle.ft_core.specs.checked.Sound.{IsSound};
+ghost use Rattle.ft_core.specs.checked.Checked.{IsChecked, checked_prop};
 
 use crate::term::{Cond, Term};
 use ft_base::{List, Range, Text};

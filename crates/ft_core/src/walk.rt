@@ -7,8 +7,8 @@
 // up once. Source: the path-based search for strong components of Purdom and Munro, as Gabow gives it.
 
 ghost use Rattle.std.specs.Prelude.{◌≡◌, ◌<◌, ◌≤◌, ◌⊎◌, ℕ, [], ◌∷◌, length, drop, slice_get, Some, None, IfOk, OnOk, IsTrue, IsFalse};
-ghost use Rattle.ft_core.specs.Order.{AreItems, ReadsItem};
-ghost use Rattle.ft_core.specs.Walk.{IsIn, IsLone, Walks, Advances, Finishes, IsNew, IsOpened, IsTop, Joins, IsLeast, IsLeastAfter, BeginsBy, left};
+ghost use Rattle.ft_core.specs.meaning.Order.{AreItems, ReadsItem};
+ghost use Rattle.ft_core.specs.walk.Walk.{IsIn, IsLone, Walks, Advances, Finishes, IsNew, IsOpened, IsTop, Joins, IsLeast, IsLeastAfter, BeginsBy, left};
 ghost use Rattle.ft_core.specs.declared.walk.Component.{Component};
 
 use ft_base::{List, NoMemory};

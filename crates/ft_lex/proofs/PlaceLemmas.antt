@@ -5,9 +5,9 @@ use Rattle.std.proofs.lemmas.List.Sums.{count_by_more_yes, count_by_more_no, cou
 use Rattle.std.proofs.lemmas.List.{length-take-le}
 use Rattle.std.proofs.lemmas.Bool.{cases_Bool}
 use Rattle.ft_base.specs.declared.place.Place.{Place}
-use Rattle.ft_lex.specs.Bytes.{is_within_line}
-use Rattle.ft_lex.specs.Place.{place_after}
-use Rattle.ft_lex.specs.Reading.{next_place}
+use Rattle.ft_lex.specs.meaning.Bytes.{is_within_line}
+use Rattle.ft_lex.specs.meaning.Place.{place_after}
+use Rattle.ft_lex.specs.lexing.Lexing.{next_place}
 
 same_place : (p q : Place) → p.line ≡ q.line → p.column ≡ q.column → p ≡ q
 same_place p q lines columns = λ i. record { line = lines i; column = columns i }

@@ -11,9 +11,9 @@ use Rattle.ft_lex.specs.declared.token.TokenKind.{TokenKind}
 use Rattle.ft_lex.specs.declared.token.TokenKind.TheVariants.{Name, Number, Word, Sign, End, Bad}
 use Rattle.ft_base.specs.Names.{is_letter, is_name_byte, is_reserved_word}
 use Rattle.ft_base.specs.Digits.{is_digit}
-use Rattle.ft_lex.specs.Tokens.{BeginsNone, IsLongestSign, IsNameShape, IsShape, is_last}
-use Rattle.ft_lex.specs.Signs.{signs}
-use Rattle.ft_lex.specs.Reading.{Shape, name_shape, shape_of, sign_len, sign_shape}
+use Rattle.ft_lex.specs.meaning.Tokens.{BeginsNone, IsLongestSign, IsNameShape, IsShape, is_last}
+use Rattle.ft_lex.specs.meaning.Signs.{signs}
+use Rattle.ft_lex.specs.lexing.Lexing.{Shape, name_shape, shape_of, sign_len, sign_shape}
 use Rattle.ft_lex.proofs.SpaceLemmas.{not_true}
 use Rattle.ft_lex.proofs.SignLemmas.{all-tested, sign_len-found, sign_len-longest}
 

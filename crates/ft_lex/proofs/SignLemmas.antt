@@ -7,8 +7,8 @@ use Rattle.std.proofs.lemmas.Bool.{true≢false, cases_Bool}
 use Rattle.std.proofs.lemmas.Bool.Decides.{nat_tests}
 use Rattle.std.proofs.lemmas.List.Elements.{All-nil, All-cons, All-weaker, All-contains, Contains-push, Contains-append_left, Contains-append_right}
 use Rattle.std.proofs.lemmas.Slice.Eq.{bytes_eq-Decides}
-use Rattle.ft_lex.specs.Signs.{signs}
-use Rattle.ft_lex.specs.Reading.{first_len, sign_len}
+use Rattle.ft_lex.specs.meaning.Signs.{signs}
+use Rattle.ft_lex.specs.lexing.Lexing.{first_len, sign_len}
 
 abbrev table_len : List (List ℕ) → List ℕ → ℕ
 table_len table bytes = first_len (λ text. text) table bytes

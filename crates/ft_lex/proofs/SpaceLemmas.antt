@@ -5,10 +5,10 @@ use Rattle.std.proofs.lemmas.Bool.{true≢false, cases_Bool}
 use Rattle.std.proofs.lemmas.Bool.Decides.{nat_tests}
 use Rattle.ft_lex.specs.declared.space.Within.{Within}
 use Rattle.ft_lex.specs.declared.space.Within.TheVariants.{Blanks, Comment}
-use Rattle.ft_lex.specs.Bytes.{is_blank, is_within_line, begins_space}
-use Rattle.ft_lex.specs.Space.{Piece, blank, comment, spaced, IsLineEnd, ArePieces, IsSpaceBefore}
-use Rattle.ft_lex.specs.Tokens.{Begins}
-use Rattle.ft_lex.specs.Reading.{after_byte, goes_on, space_from, space_len}
+use Rattle.ft_lex.specs.meaning.Bytes.{is_blank, is_within_line, begins_space}
+use Rattle.ft_lex.specs.meaning.Space.{Piece, blank, comment, spaced, IsLineEnd, ArePieces, IsSpaceBefore}
+use Rattle.ft_lex.specs.meaning.Tokens.{Begins}
+use Rattle.ft_lex.specs.lexing.Lexing.{after_byte, goes_on, space_from, space_len}
 
 pub not_true : (b : Bool) → (b ≡ true → ⊥) → b ≡ false
 not_true true no_way = absurd (no_way refl)

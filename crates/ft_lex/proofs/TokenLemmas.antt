@@ -6,9 +6,9 @@ use Rattle.std.proofs.lemmas.Bool.{cases_Bool}
 use Rattle.std.proofs.lemmas.List.Elements.{All-cons, All-nil}
 use Rattle.std.proofs.lemmas.List.{length-drop}
 use Rattle.ft_lex.specs.declared.token.Token.{Token}
-use Rattle.ft_lex.specs.Place.{place_after}
-use Rattle.ft_lex.specs.Tokens.{AreTokensFrom, LiesIn, IsNext, IsTokens, is_last}
-use Rattle.ft_lex.specs.Reading.{Shape, shape_of, space_len}
+use Rattle.ft_lex.specs.meaning.Place.{place_after}
+use Rattle.ft_lex.specs.meaning.Tokens.{AreTokensFrom, LiesIn, IsNext, IsTokens, is_last}
+use Rattle.ft_lex.specs.lexing.Lexing.{Shape, shape_of, space_len}
 use Rattle.ft_lex.proofs.SpaceLemmas.{space_len-spaced}
 use Rattle.ft_lex.proofs.ShapeLemmas.{shape-only, shape-some}
 

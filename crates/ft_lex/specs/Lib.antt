@@ -1,6 +1,2 @@
-pub mod Bytes
-pub mod Place
-pub mod Reading
-pub mod Signs
-pub mod Space
-pub mod Tokens
+pub mod lexing
+pub mod meaning

@@ -1,5 +1,5 @@
-ghost use Rattle.ft_lex.specs.Reading.{SignsLongest};
-ghost use Rattle.ft_lex.specs.Tokens.{OneTokens};
+ghost use Rattle.ft_lex.specs.lexing.Lexing.{SignsLongest};
+ghost use Rattle.ft_lex.specs.meaning.Tokens.{OneTokens};
 
 /// A text has one list of tokens.
 pub fn one_tokens()

@@ -2,14 +2,14 @@
 #![tactic(auto)]
 
 mod law;
+mod lexing;
 mod places;
-mod reading;
 mod shapes;
 mod space;
 mod token;
 mod words;
 
 pub use law::{one_tokens, signs_longest};
-pub use reading::tokens;
+pub use lexing::tokens;
 pub use token::{Token, TokenKind};
 pub use words::is_reserved;

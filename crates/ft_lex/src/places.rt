@@ -1,6 +1,6 @@
 ghost use Rattle.std.specs.Prelude.{◌≡◌, ◌+◌, ◌-◌, ◌^◌, ◌<◌, ◌≤◌, length, take};
-ghost use Rattle.ft_lex.specs.Place.{place_after};
-ghost use Rattle.ft_lex.specs.Reading.{next_place};
+ghost use Rattle.ft_lex.specs.meaning.Place.{place_after};
+ghost use Rattle.ft_lex.specs.lexing.Lexing.{next_place};
 
 use ft_base::Place;
 

@@ -2,7 +2,7 @@ ghost use Rattle.std.specs.Prelude.{◌≡◌, ◌≤◌, length};
 ghost use Rattle.std.specs.List.{prefix_len};
 ghost use Rattle.ft_base.specs.Digits.{is_digit};
 ghost use Rattle.ft_base.specs.Names.{is_name_byte};
-ghost use Rattle.ft_lex.specs.Reading.{name_shape, shape_of, sign_shape};
+ghost use Rattle.ft_lex.specs.lexing.Lexing.{name_shape, shape_of, sign_shape};
 
 use crate::token::TokenKind;
 use crate::words::{is_reserved, longest_sign};

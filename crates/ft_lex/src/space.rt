@@ -1,6 +1,6 @@
 ghost use Rattle.std.specs.Prelude.{◌≡◌, ◌≤◌, length};
-ghost use Rattle.ft_lex.specs.Bytes.{begins_space};
-ghost use Rattle.ft_lex.specs.Reading.{after_byte, goes_on, space_len};
+ghost use Rattle.ft_lex.specs.meaning.Bytes.{begins_space};
+ghost use Rattle.ft_lex.specs.lexing.Lexing.{after_byte, goes_on, space_len};
 
 /// What a byte of space stands in.
 #[derive(Clone, Copy, Drop)]
@@ -39,7 +39,7 @@ impl Within {
 }
 
 /// How many bytes of space the bytes begin with: blanks, and comments from `#` to their line's end.
-#[tactic(auto, unfolding(crate::specs::Reading::space_from))]
+#[tactic(auto, unfolding(crate::specs::lexing::Lexing::space_from))]
 pub fn space(bytes: &[u8]) -> usize
     ensures length { result ≡ space_len bytes.now }
     ensures within { result ≤ length bytes.now }

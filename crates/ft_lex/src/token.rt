@@ -31,7 +31,7 @@ pub struct Token {
 
 impl TokenKind {
     ghost use Rattle.std.specs.Prelude.{◌≡◌};
-    ghost use Rattle.ft_lex.specs.Tokens.{is_last};
+    ghost use Rattle.ft_lex.specs.meaning.Tokens.{is_last};
 
     /// Whether no token follows one of this kind.
     pub fn is_last(self) -> bool
@@ -46,7 +46,7 @@ impl TokenKind {
 
 impl Token {
     ghost use Rattle.std.specs.Prelude.{◌≡◌};
-    ghost use Rattle.ft_lex.specs.Tokens.{LiesIn, is_sign, is_word, token_text};
+    ghost use Rattle.ft_lex.specs.meaning.Tokens.{LiesIn, is_sign, is_word, token_text};
 
     /// The bytes of the token.
     pub fn text<'t>(&self, text: &'t [u8]) -> &'t [u8]

@@ -2,7 +2,7 @@ ghost use Rattle.std.specs.Prelude.{◌≡◌};
 ghost use Rattle.std.specs.List.{list_any};
 ghost use Rattle.std.specs.Str.{bytes_eq};
 ghost use Rattle.ft_base.specs.Names.{is_reserved_word};
-ghost use Rattle.ft_lex.specs.Reading.{first_len, sign_len};
+ghost use Rattle.ft_lex.specs.lexing.Lexing.{first_len, sign_len};
 
 const RESERVED: [&[u8]; 43] = [
     b"set",
@@ -76,7 +76,7 @@ pub fn is_reserved(word: &[u8]) -> bool
 }
 
 // The length of the first of the texts that the bytes begin with, or 0.
-#[tactic(auto, unfolding(crate::specs::Reading::first_len))]
+#[tactic(auto, unfolding(crate::specs::lexing::Lexing::first_len))]
 fn first_match(bytes: &[u8], texts: &[&[u8]]) -> usize
     ensures { result ≡ first_len (λ text. text.now) texts.now bytes.now }
 {
@@ -89,7 +89,7 @@ fn first_match(bytes: &[u8], texts: &[&[u8]]) -> usize
 }
 
 /// The length of the longest sign that the bytes begin with, or 0.
-#[tactic(auto, unfolding(crate::specs::Reading::first_len, crate::specs::Signs::signs))]
+#[tactic(auto, unfolding(crate::specs::lexing::Lexing::first_len, crate::specs::meaning::Signs::signs))]
 pub fn longest_sign(bytes: &[u8]) -> usize
     ensures { result ≡ sign_len bytes.now }
 {

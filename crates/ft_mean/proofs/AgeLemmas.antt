@@ -7,9 +7,9 @@ use Rattle.std.specs.Int.{int_min}
 use Rattle.std.proofs.lemmas.Int.{ints}
 use Rattle.std.proofs.lemmas.Bool.{and_parts, or_cases}
 use Rattle.std.proofs.lemmas.List.Folds.{list_all-append, find-append}
-use Rattle.ft_mean.specs.Past.{scans, held, age}
-use Rattle.ft_mean.specs.Laws.{HeldIsFullAge}
-pub use Rattle.ft_mean.specs.PastLaws.{next_age}
+use Rattle.ft_mean.specs.meaning.Past.{scans, held, age}
+use Rattle.ft_mean.specs.laws.Laws.{HeldIsFullAge}
+pub use Rattle.ft_mean.specs.laws.PastLaws.{next_age}
 use Rattle.ft_mean.proofs.PastLemmas.{range_more, same_all}
 
 -- one more scan is put at the end

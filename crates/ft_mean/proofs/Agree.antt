@@ -9,11 +9,11 @@ use Rattle.ft_core.specs.declared.term.Term.TheVariants.{rolls-Now, rolls-Prev, 
 use Rattle.ft_core.specs.declared.term.Cond.{Cond}
 use Rattle.ft_core.specs.declared.term.Cond.TheOpen as cl
 use Rattle.ft_core.specs.declared.term.Cond.TheVariants.{rolls-Compare, rolls-Memory, rolls-Not, rolls-And, rolls-Or}
-use Rattle.ft_core.specs.Reads.{Read, at_now, at_before, of_memory, of_age, term_reads, cond_reads}
-use Rattle.ft_core.specs.Equations.{term_induction, cond_induction, reads-rolled, cond_reads-rolled}
-pub use Rattle.ft_mean.specs.Equations.{value-Num, value-Now, value-Prev, value-Age, value-Neg, value-Add, value-Sub, value-Times, value-Div, truth-Yes, truth-No, truth-Compare, truth-Memory, truth-Not, truth-And, truth-Or, evaluation}
-pub use Rattle.ft_mean.specs.EvaluationLaws.{Same, AllSame}
-use Rattle.ft_mean.specs.Value.{View, value, compares, truth}
+use Rattle.ft_core.specs.meaning.Reads.{Read, at_now, at_before, of_memory, of_age, term_reads, cond_reads}
+use Rattle.ft_core.specs.laws.Equations.{term_induction, cond_induction, reads-rolled, cond_reads-rolled}
+pub use Rattle.ft_mean.specs.laws.Equations.{value-Num, value-Now, value-Prev, value-Age, value-Neg, value-Add, value-Sub, value-Times, value-Div, truth-Yes, truth-No, truth-Compare, truth-Memory, truth-Not, truth-And, truth-Or, evaluation}
+pub use Rattle.ft_mean.specs.laws.EvaluationLaws.{Same, AllSame}
+use Rattle.ft_mean.specs.meaning.Value.{View, value, compares, truth}
 
 -- what stands in one list stands in another that equals it
 pub carried : {xs ys : List Read} {r : Read} → ys ≡ xs → Contains xs r → Contains ys r

@@ -2,7 +2,7 @@
 use Rattle.std.proofs.Common.{◌≡◌, ◌∙◌, sym, ap, subst, ℕ, zero, suc, ◌+◌, ◌-◌, ◌<◌, ◌≤◌, ℤ, pos, ◌+ℤ◌, ◌≤ℤ◌, true, false, arith, ⊎_elim, true≢false}
 use Rattle.std.proofs.lemmas.Bool.{cases_Bool, cases_lt, cond-true, cond-false}
 use Rattle.ft_core.specs.declared.tables.Tables.{Tables}
-use Rattle.ft_mean.specs.Reading.{Reading, init_of, begins, begun, since, scan_before, before}
+use Rattle.ft_mean.specs.meaning.Reading.{Reading, init_of, begins, begun, since, scan_before, before}
 use Rattle.ft_mean.proofs.TimeLemmas.{begins_first, begun_here, begun_past, since_none, since_next, SameTime}
 
 module _ (S : Tables) (ρ : Reading) where

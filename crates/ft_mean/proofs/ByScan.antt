@@ -8,16 +8,16 @@ use Rattle.ft_core.specs.declared.tables.Section.{Section}
 use Rattle.ft_core.specs.declared.tables.Section.TheVariants as section
 use Rattle.ft_core.specs.declared.tables.Side.TheVariants as side
 use Rattle.ft_core.specs.declared.term.Cond.{Cond}
-use Rattle.ft_core.specs.Kinds.{Kinds, monitored, controlled, outputs, image_kinds, side_kinds, count_of}
-use Rattle.ft_core.specs.Reads.{Read, at_now, at_before, of_memory, of_age, cond_reads}
-use Rattle.ft_core.specs.Sound.{AllRead, now_of, step_of}
-use Rattle.ft_mean.specs.Value.{View, truth}
-use Rattle.ft_mean.specs.Reading.{Reading, reading_of, init_of, begins, before}
-use Rattle.ft_mean.specs.Memory.{look}
-use Rattle.ft_mean.specs.Cells.{Follows}
-use Rattle.ft_mean.specs.Allowed.{nat_at}
-use Rattle.ft_mean.specs.Fits.{Maps}
-use Rattle.ft_mean.specs.Laws.{GoesByScan, MapsByScan, OutputsAlone, AllowedByScan}
+use Rattle.ft_core.specs.meaning.Kinds.{Kinds, monitored, controlled, outputs, image_kinds, side_kinds, count_of}
+use Rattle.ft_core.specs.meaning.Reads.{Read, at_now, at_before, of_memory, of_age, cond_reads}
+use Rattle.ft_core.specs.checked.Sound.{AllRead, now_of, step_of}
+use Rattle.ft_mean.specs.meaning.Value.{View, truth}
+use Rattle.ft_mean.specs.meaning.Reading.{Reading, reading_of, init_of, begins, before}
+use Rattle.ft_mean.specs.meaning.Memory.{look}
+use Rattle.ft_mean.specs.meaning.Cells.{Follows}
+use Rattle.ft_mean.specs.meaning.Allowed.{nat_at}
+use Rattle.ft_mean.specs.meaning.Fits.{Maps}
+use Rattle.ft_mean.specs.laws.Laws.{GoesByScan, MapsByScan, OutputsAlone, AllowedByScan}
 use Rattle.ft_mean.proofs.Agree.{Same}
 use Rattle.ft_mean.proofs.BegunLemmas.{before_begins}
 use Rattle.ft_mean.proofs.CellLemmas.{own_reads, all_alike}

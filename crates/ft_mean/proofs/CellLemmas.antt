@@ -14,11 +14,11 @@ use Rattle.ft_core.specs.declared.tables.Grid.{Grid}
 use Rattle.ft_core.specs.declared.tables.Grid.TheVariants.{Normal, Inverted, Vector}
 use Rattle.ft_core.specs.declared.term.Term.{Term}
 use Rattle.ft_core.specs.declared.term.Cond.{Cond}
-use Rattle.ft_core.specs.Grids.{Cell, row_cells, cells, cells_for, defines, is_section, is_for}
-use Rattle.ft_core.specs.Reads.{Read, term_reads, cond_reads, grid_reads, cell_reads}
-use Rattle.ft_mean.specs.Value.{View, value, truth}
-use Rattle.ft_mean.specs.Cells.{cell_holds, holding, cells_of}
-use Rattle.ft_mean.specs.Proper.{HasOneCell}
+use Rattle.ft_core.specs.meaning.Grids.{Cell, row_cells, cells, cells_for, defines, is_section, is_for}
+use Rattle.ft_core.specs.meaning.Reads.{Read, term_reads, cond_reads, grid_reads, cell_reads}
+use Rattle.ft_mean.specs.meaning.Value.{View, value, truth}
+use Rattle.ft_mean.specs.meaning.Cells.{cell_holds, holding, cells_of}
+use Rattle.ft_mean.specs.meaning.Proper.{HasOneCell}
 use Rattle.ft_mean.proofs.Agree.{Same, AllSame, same_value, same_truth}
 
 -- P of each item

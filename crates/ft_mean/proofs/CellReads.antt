@@ -3,12 +3,12 @@ use Rattle.std.proofs.Common.{◌≡◌, subst, refl, ℕ, zero, suc, cond, List
 use Rattle.std.specs.List.{Contains, flat_map}
 use Rattle.std.proofs.lemmas.List.Elements.{Contains-append_left, Contains-append_right}
 use Rattle.std.proofs.lemmas.Option.{none-some, same_Some}
-use Rattle.ft_core.specs.Grids.{Cell, cells}
-use Rattle.ft_core.specs.Reads.{cond_reads, term_reads, grid_reads}
-use Rattle.ft_mean.specs.Cells.{holding}
-use Rattle.ft_mean.specs.EvaluationLaws.{SameCell, SameHolding}
-use Rattle.ft_mean.specs.TableLaws.{CellsReadTheirs}
-use Rattle.ft_mean.specs.Value.{View}
+use Rattle.ft_core.specs.meaning.Grids.{Cell, cells}
+use Rattle.ft_core.specs.meaning.Reads.{cond_reads, term_reads, grid_reads}
+use Rattle.ft_mean.specs.meaning.Cells.{holding}
+use Rattle.ft_mean.specs.laws.EvaluationLaws.{SameCell, SameHolding}
+use Rattle.ft_mean.specs.laws.TableLaws.{CellsReadTheirs}
+use Rattle.ft_mean.specs.meaning.Value.{View}
 use Rattle.ft_mean.proofs.Agree.{same_value}
 use Rattle.ft_mean.proofs.CellLemmas.{Each, OfCell, SameCell as Alike, all_alike, cells_read, cells_alike}
 

@@ -3,7 +3,7 @@ use Rattle.std.proofs.Common.{◌≡◌, ◌∙◌, ap, refl, ℕ, zero, suc, �
 use Rattle.std.proofs.lemmas.Bool.{cond-true, cond-false}
 use Rattle.std.proofs.lemmas.Option.{same_Some, none-some}
 use Rattle.ft_core.specs.declared.tables.Var.{Var}
-use Rattle.ft_core.specs.Kinds.{Kinds, after_first, place_of}
+use Rattle.ft_core.specs.meaning.Kinds.{Kinds, after_first, place_of}
 
 -- the place after a variable
 pub next_place : (kinds : Kinds) (vars : List Var) (x : ℕ) (v : Var) → slice_get vars x ≡ Some v

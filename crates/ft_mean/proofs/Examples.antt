@@ -1,7 +1,7 @@
 -- The definitions, computed at cases with known answers.
 use Rattle.std.proofs.Common.{◌≡◌, refl, ℕ, ◌-◌, ◌*◌, ℤ, pos, negsuc, true, false, List, [], ◌∷◌, slice_index_or}
 use Rattle.ft_base.specs.Division.{floor_of}
-use Rattle.ft_mean.specs.Past.{held, hyst, age}
+use Rattle.ft_mean.specs.meaning.Past.{held, hyst, age}
 
 -- a list as a function of the scan
 at : {A : Type 0} → A → List A → ℕ → A

@@ -10,13 +10,13 @@ use Rattle.ft_core.specs.declared.tables.VarKind.{VarKind}
 use Rattle.ft_core.specs.declared.tables.VarKind.TheVariants as kind
 use Rattle.ft_core.specs.declared.tables.Side.{Side}
 use Rattle.ft_core.specs.declared.tables.Side.TheVariants as side
-use Rattle.ft_core.specs.Kinds.{Kinds, same_kind, given_kinds, defined_kinds, side_kinds, section_of}
-use Rattle.ft_core.specs.Reads.{at_now}
-use Rattle.ft_mean.specs.Value.{View}
-use Rattle.ft_mean.specs.Reading.{Reading, IsVar}
-use Rattle.ft_mean.specs.Memory.{look}
-use Rattle.ft_mean.specs.Cells.{defined}
-use Rattle.ft_mean.specs.Proper.{AllProper}
+use Rattle.ft_core.specs.meaning.Kinds.{Kinds, same_kind, given_kinds, defined_kinds, side_kinds, section_of}
+use Rattle.ft_core.specs.meaning.Reads.{at_now}
+use Rattle.ft_mean.specs.meaning.Value.{View}
+use Rattle.ft_mean.specs.meaning.Reading.{Reading, IsVar}
+use Rattle.ft_mean.specs.meaning.Memory.{look}
+use Rattle.ft_mean.specs.meaning.Cells.{defined}
+use Rattle.ft_mean.specs.meaning.Proper.{AllProper}
 use Rattle.ft_mean.proofs.WellFormed.{IsOf, IsWellFormed}
 use Rattle.ft_mean.proofs.MemoryLemmas.{look_local}
 use Rattle.ft_mean.proofs.OneScan.{Answer, answer, table_of, defined_same, table_same, given_or_defined, on_side}

@@ -11,10 +11,10 @@ use Rattle.ft_core.specs.declared.tables.Grid.TheVariants.{Normal, Inverted, Vec
 use Rattle.ft_core.specs.declared.term.Term.{Term}
 use Rattle.ft_core.specs.declared.term.Cond.{Cond}
 use Rattle.ft_core.specs.declared.tables.Grid.{Grid}
-use Rattle.ft_core.specs.Grids.{Cell, row_cells, cells, defines}
-use Rattle.ft_mean.specs.Value.{View, truth}
-use Rattle.ft_mean.specs.Cells.{cell_holds}
-use Rattle.ft_mean.specs.FirstCell.{first_answer, place_if, first_column, headed_column, target_column, in_row, first_row}
+use Rattle.ft_core.specs.meaning.Grids.{Cell, row_cells, cells, defines}
+use Rattle.ft_mean.specs.meaning.Value.{View, truth}
+use Rattle.ft_mean.specs.meaning.Cells.{cell_holds}
+use Rattle.ft_mean.specs.judge.FirstCell.{first_answer, place_if, first_column, headed_column, target_column, in_row, first_row}
 use Rattle.ft_mean.proofs.CellLemmas.{no_cells}
 
 -- a walk over pairs, at one and past the last

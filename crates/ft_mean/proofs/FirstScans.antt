@@ -6,13 +6,13 @@ use Rattle.ft_core.specs.declared.tables.Tables.{Tables}
 use Rattle.ft_core.specs.declared.tables.Side.TheVariants as side
 use Rattle.ft_core.specs.declared.tables.Section.{Section}
 use Rattle.ft_core.specs.declared.tables.Section.TheVariants as section
-use Rattle.ft_core.specs.Kinds.{Kinds, monitored, controlled, outputs, image_kinds, given_kinds, side_kinds, place_of, is_of}
-use Rattle.ft_core.specs.Reads.{Read}
-use Rattle.ft_mean.specs.Cells.{defined}
-use Rattle.ft_mean.specs.Fits.{Fits, Maps, side_reading}
-use Rattle.ft_mean.specs.Memory.{look}
-use Rattle.ft_mean.specs.Reading.{Scans, IsListOf, reading_of, init_of}
-use Rattle.ft_mean.specs.TraceLaws.{FitsLonger, AllowedShorter, FitsShorter, InputsShorter, OutputsShorter, SameFront, DiffersShorter}
+use Rattle.ft_core.specs.meaning.Kinds.{Kinds, monitored, controlled, outputs, image_kinds, given_kinds, side_kinds, place_of, is_of}
+use Rattle.ft_core.specs.meaning.Reads.{Read}
+use Rattle.ft_mean.specs.meaning.Cells.{defined}
+use Rattle.ft_mean.specs.meaning.Fits.{Fits, Maps, side_reading}
+use Rattle.ft_mean.specs.meaning.Memory.{look}
+use Rattle.ft_mean.specs.meaning.Reading.{Scans, IsListOf, reading_of, init_of}
+use Rattle.ft_mean.specs.laws.TraceLaws.{FitsLonger, AllowedShorter, FitsShorter, InputsShorter, OutputsShorter, SameFront, DiffersShorter}
 use Rattle.ft_mean.proofs.ByScan.{follows_again}
 use Rattle.ft_mean.proofs.LookLemmas.{side_follows, nat_same}
 use Rattle.ft_mean.proofs.Longer.{fits_longer}

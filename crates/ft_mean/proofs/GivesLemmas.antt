@@ -11,10 +11,10 @@ use Rattle.ft_core.specs.declared.tables.Grid.{Grid}
 use Rattle.ft_core.specs.declared.tables.Grid.TheVariants.{Normal, Inverted, Vector}
 use Rattle.ft_core.specs.declared.term.Term.{Term}
 use Rattle.ft_core.specs.declared.term.Cond.{Cond}
-use Rattle.ft_core.specs.Grids.{Cell, row_cells, cells, cells_for, is_section}
-use Rattle.ft_mean.specs.Value.{View, value, truth}
-use Rattle.ft_mean.specs.Cells.{cell_holds, cells_of, defined}
-use Rattle.ft_mean.specs.Seen.{gives_in, row_gives, grid_gives}
+use Rattle.ft_core.specs.meaning.Grids.{Cell, row_cells, cells, cells_for, is_section}
+use Rattle.ft_mean.specs.meaning.Value.{View, value, truth}
+use Rattle.ft_mean.specs.meaning.Cells.{cell_holds, cells_of, defined}
+use Rattle.ft_mean.specs.judge.Seen.{gives_in, row_gives, grid_gives}
 
 -- what passes a test among those that pass another
 any_filter : {A : Type 0} (p q : A → Bool) (xs : List A) → list_any p (filter q xs) ≡ list_any (λ a. q a && p a) xs

@@ -5,8 +5,8 @@ use Rattle.ft_core.specs.declared.tables.Tables.{Tables}
 use Rattle.ft_core.specs.declared.tables.Var.{Var}
 use Rattle.ft_core.specs.declared.tables.Section.{Section}
 use Rattle.ft_core.specs.declared.tables.Section.TheVariants as section
-use Rattle.ft_core.specs.Kinds.{Kinds, defined_kinds, image_kinds}
-use Rattle.ft_mean.specs.Reading.{IsVar}
+use Rattle.ft_core.specs.meaning.Kinds.{Kinds, defined_kinds, image_kinds}
+use Rattle.ft_mean.specs.meaning.Reading.{IsVar}
 
 image_is : (section : Section) → image_kinds section ≡ defined_kinds section
 image_is section.In = refl

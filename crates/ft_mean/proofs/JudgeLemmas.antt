@@ -16,18 +16,18 @@ use Rattle.ft_core.specs.declared.tables.Memory as tables
 use Rattle.ft_core.specs.declared.tables.Memory.TheVariants.{Held, Hyst}
 use Rattle.ft_core.specs.declared.tables.Side.{Side}
 use Rattle.ft_core.specs.declared.tables.Side.TheVariants as side
-use Rattle.ft_core.specs.Kinds.{given_kinds, defined_kinds, side_kinds, section_of, is_of, place_of}
-use Rattle.ft_core.specs.Reads.{Read}
-use Rattle.ft_core.specs.Size.{var_size, age_size}
+use Rattle.ft_core.specs.meaning.Kinds.{given_kinds, defined_kinds, side_kinds, section_of, is_of, place_of}
+use Rattle.ft_core.specs.meaning.Reads.{Read}
+use Rattle.ft_core.specs.checked.Size.{var_size, age_size}
 use Rattle.ft_mean.specs.declared.seen.Seen.{Seen}
-use Rattle.ft_mean.specs.Value.{value, truth}
-use Rattle.ft_mean.specs.Cells.{defined}
-use Rattle.ft_mean.specs.Memory.{at_scan, remembered, memory_within, memory_at, look}
-use Rattle.ft_mean.specs.Reading.{Reading, Scans, IsListOf, IsVar, init_of, reading_of, before, begun, since}
-use Rattle.ft_mean.specs.Fits.{Fits, side_reading}
-use Rattle.ft_mean.specs.Safe.{IsSafeBy}
-use Rattle.ft_mean.specs.Seen.{view_at, recalled, recalled_at, after_rounds}
-use Rattle.ft_mean.specs.Part.{scans_of, is_list, are_lists, has_given, has_table, is_right, follows_by, at_all}
+use Rattle.ft_mean.specs.meaning.Value.{value, truth}
+use Rattle.ft_mean.specs.meaning.Cells.{defined}
+use Rattle.ft_mean.specs.meaning.Memory.{at_scan, remembered, memory_within, memory_at, look}
+use Rattle.ft_mean.specs.meaning.Reading.{Reading, Scans, IsListOf, IsVar, init_of, reading_of, before, begun, since}
+use Rattle.ft_mean.specs.meaning.Fits.{Fits, side_reading}
+use Rattle.ft_mean.specs.judge.Safe.{IsSafeBy}
+use Rattle.ft_mean.specs.judge.Seen.{view_at, recalled, recalled_at, after_rounds}
+use Rattle.ft_mean.specs.judge.Scope.{scans_of, is_list, are_lists, has_given, has_table, is_right, follows_by, at_all}
 use Rattle.ft_mean.proofs.WellFormed.{OnSide, MayRead, opened}
 use Rattle.ft_mean.proofs.CellLemmas.{own_reads}
 use Rattle.ft_mean.proofs.MemoryLemmas.{ageless}

@@ -18,11 +18,9 @@ pub mod LookLemmas
 pub mod MapsLaw
 pub mod MemoryLemmas
 pub mod MovesLaw
-pub mod OneColumnLemmas
 pub mod OneScan
 pub mod Passes
 pub mod PastLemmas
-pub mod ProperLemmas
 pub mod RecallLemmas
 pub mod RowReads
 pub mod Rows

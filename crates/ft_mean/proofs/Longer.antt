@@ -5,10 +5,10 @@ use Rattle.std.proofs.lemmas.List.{length_push, get_or_push, get_or_append_left}
 use Rattle.ft_core.specs.declared.tables.Tables.{Tables}
 use Rattle.ft_core.specs.declared.tables.Var.{Var}
 use Rattle.ft_core.specs.declared.tables.Side.{Side}
-use Rattle.ft_core.specs.Kinds.{Kinds, place_of, is_of, given_kinds, side_kinds}
-use Rattle.ft_mean.specs.Reading.{Scans, reading_of, init_of, IsVar, IsListOf}
-use Rattle.ft_mean.specs.Proper.{AllProper}
-use Rattle.ft_mean.specs.Fits.{Fits, side_reading}
+use Rattle.ft_core.specs.meaning.Kinds.{Kinds, place_of, is_of, given_kinds, side_kinds}
+use Rattle.ft_mean.specs.meaning.Reading.{Scans, reading_of, init_of, IsVar, IsListOf}
+use Rattle.ft_mean.specs.meaning.Proper.{AllProper}
+use Rattle.ft_mean.specs.meaning.Fits.{Fits, side_reading}
 use Rattle.ft_mean.proofs.Rows.{same_rows}
 use Rattle.ft_mean.proofs.Traces.{one_trace, same_scan, reading_at, reading_range}
 use Rattle.ft_mean.proofs.WellFormed.{IsOf, opened}

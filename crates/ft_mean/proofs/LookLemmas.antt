@@ -5,15 +5,15 @@ use Rattle.std.specs.List.{list_all}
 use Rattle.ft_core.specs.declared.tables.Tables.{Tables}
 use Rattle.ft_core.specs.declared.tables.Side.{Side}
 use Rattle.ft_core.specs.declared.tables.Side.TheVariants as side
-use Rattle.ft_core.specs.Kinds.{monitored, section_of}
-use Rattle.ft_core.specs.Reads.{Read, at_now, at_before, of_memory, of_age}
-use Rattle.ft_core.specs.Sound.{on_side, may_read, now_of, step_of}
-use Rattle.ft_mean.specs.Cells.{defined}
-use Rattle.ft_mean.specs.EvaluationLaws.{Same}
-use Rattle.ft_mean.specs.LookLaws.{MemoriesRemember, SidesReadNoAge, AgreeUpTo, SideLooksSame, SideFollowsSame, NatSame, LooksAreLocal}
-use Rattle.ft_mean.specs.Memory.{look}
-use Rattle.ft_mean.specs.Reading.{Reading, before, begins}
-use Rattle.ft_mean.specs.Value.{truth}
+use Rattle.ft_core.specs.meaning.Kinds.{monitored, section_of}
+use Rattle.ft_core.specs.meaning.Reads.{Read, at_now, at_before, of_memory, of_age}
+use Rattle.ft_core.specs.checked.Sound.{on_side, may_read, now_of, step_of}
+use Rattle.ft_mean.specs.meaning.Cells.{defined}
+use Rattle.ft_mean.specs.laws.EvaluationLaws.{Same}
+use Rattle.ft_mean.specs.laws.LookLaws.{MemoriesRemember, SidesReadNoAge, AgreeUpTo, SideLooksSame, SideFollowsSame, NatSame, LooksAreLocal}
+use Rattle.ft_mean.specs.meaning.Memory.{look}
+use Rattle.ft_mean.specs.meaning.Reading.{Reading, before, begins}
+use Rattle.ft_mean.specs.meaning.Value.{truth}
 use Rattle.ft_mean.proofs.BegunLemmas.{before_same}
 use Rattle.ft_mean.proofs.ByScan.{clauses_alike}
 use Rattle.ft_mean.proofs.MemoryLemmas.{memory_at-is, ageless, look_same, look_local}

@@ -8,14 +8,14 @@ use Rattle.ft_core.specs.declared.tables.Var.{Var}
 use Rattle.ft_core.specs.declared.tables.Section.{Section}
 use Rattle.ft_core.specs.declared.tables.Section.TheVariants as section
 use Rattle.ft_core.specs.declared.tables.Side.TheVariants as side
-use Rattle.ft_core.specs.Kinds.{Kinds, monitored, defined_kinds, image_kinds, side_kinds}
-use Rattle.ft_mean.specs.Value.{View}
-use Rattle.ft_mean.specs.Reading.{Scans, IsListOf, IsVar, reading_of}
-use Rattle.ft_mean.specs.Memory.{look}
-use Rattle.ft_mean.specs.Cells.{defined}
-use Rattle.ft_mean.specs.Proper.{AllProper}
-use Rattle.ft_mean.specs.Fits.{Maps, Only}
-use Rattle.ft_mean.specs.Laws.{HasOneImage}
+use Rattle.ft_core.specs.meaning.Kinds.{Kinds, monitored, defined_kinds, image_kinds, side_kinds}
+use Rattle.ft_mean.specs.meaning.Value.{View}
+use Rattle.ft_mean.specs.meaning.Reading.{Scans, IsListOf, IsVar, reading_of}
+use Rattle.ft_mean.specs.meaning.Memory.{look}
+use Rattle.ft_mean.specs.meaning.Cells.{defined}
+use Rattle.ft_mean.specs.meaning.Proper.{AllProper}
+use Rattle.ft_mean.specs.meaning.Fits.{Maps, Only}
+use Rattle.ft_mean.specs.laws.Laws.{HasOneImage}
 use Rattle.ft_mean.proofs.ImageLemmas.{in_image, of_image, none_given}
 use Rattle.ft_mean.proofs.WellFormed.{opened, IsWellFormed}
 use Rattle.ft_mean.proofs.Rows.{length-gathered, same_rows}

@@ -1,7 +1,7 @@
 -- Each memory meets its own definition, sees only the scans and variables that it reads, and is linked to them.
 use Rattle.std.proofs.Common.{◌≡◌, ◌∙◌, sym, ap, subst, refl, ℕ, zero, suc, ◌+◌, ◌<◌, ◌≤◌, ℤ, Bool, length, List, Option, Some, None, pos, slice_get, arith, ⊎_elim}
 use Rattle.std.specs.Prelude.{IsTrue, int_le}
-use Rattle.ft_mean.specs.Past.{held, hyst}
+use Rattle.ft_mean.specs.meaning.Past.{held, hyst}
 use Rattle.std.specs.List.{Contains}
 use Rattle.std.proofs.lemmas.Bool.{cases_lt}
 use Rattle.ft_base.specs.Interval.{IsWithin}
@@ -10,13 +10,13 @@ use Rattle.ft_core.specs.declared.tables.Var.{Var}
 use Rattle.ft_core.specs.declared.tables.Side.{Side}
 use Rattle.ft_core.specs.declared.tables.Memory as tables
 use Rattle.ft_core.specs.declared.tables.Memory.TheVariants.{Held, Hyst}
-use Rattle.ft_core.specs.Kinds.{side_kinds}
-use Rattle.ft_core.specs.Reads.{Read, at_now, at_before, of_memory, of_age, memory_reads}
-use Rattle.ft_core.specs.Sound.{is_current}
-use Rattle.ft_mean.specs.Value.{truth, value}
-use Rattle.ft_mean.specs.Reading.{Reading, before, begun, since}
-use Rattle.ft_mean.specs.Memory.{at_scan, remembered, memory_within, memory_at, look}
-use Rattle.ft_mean.specs.Proper.{IsLinked, IsLocal}
+use Rattle.ft_core.specs.meaning.Kinds.{side_kinds}
+use Rattle.ft_core.specs.meaning.Reads.{Read, at_now, at_before, of_memory, of_age, memory_reads}
+use Rattle.ft_core.specs.checked.Sound.{is_current}
+use Rattle.ft_mean.specs.meaning.Value.{truth, value}
+use Rattle.ft_mean.specs.meaning.Reading.{Reading, before, begun, since}
+use Rattle.ft_mean.specs.meaning.Memory.{at_scan, remembered, memory_within, memory_at, look}
+use Rattle.ft_mean.specs.meaning.Proper.{IsLinked, IsLocal}
 use Rattle.ft_mean.proofs.WellFormed.{opened, IsOf, OnSide, IsOrder, IsWellFormed}
 use Rattle.ft_mean.proofs.Agree.{Same, AllSame, same_truth, same_value}
 use Rattle.ft_mean.proofs.TimeLemmas.{begun_low, SameTime, same_time}

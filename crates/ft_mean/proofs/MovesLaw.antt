@@ -10,12 +10,12 @@ use Rattle.ft_core.specs.declared.tables.Side.{Side}
 use Rattle.ft_core.specs.declared.term.Term.{Term}
 use Rattle.ft_core.specs.declared.term.Cond.{Cond}
 use Rattle.ft_core.specs.declared.tables.Memory.TheVariants.{Held, Hyst}
-use Rattle.ft_mean.specs.Reading.{Reading, begins, begun, elapsed, since, scan_before}
-use Rattle.ft_mean.specs.Value.{truth, value}
-use Rattle.ft_mean.specs.Past.{hyst, age}
-use Rattle.ft_mean.specs.Memory.{at_scan, remembered, memory_at, kept_of, kept, look}
-use Rattle.ft_mean.specs.Moves.{age_begins, age_goes_on, bit_goes_on, MovesAt}
-use Rattle.ft_mean.specs.Laws.{MemoriesMove}
+use Rattle.ft_mean.specs.meaning.Reading.{Reading, begins, begun, elapsed, since, scan_before}
+use Rattle.ft_mean.specs.meaning.Value.{truth, value}
+use Rattle.ft_mean.specs.meaning.Past.{hyst, age}
+use Rattle.ft_mean.specs.meaning.Memory.{at_scan, remembered, memory_at, kept_of, kept, look}
+use Rattle.ft_mean.specs.laws.Moves.{age_begins, age_goes_on, bit_goes_on, MovesAt}
+use Rattle.ft_mean.specs.laws.Laws.{MemoriesMove}
 use Rattle.ft_mean.proofs.WellFormed.{opened, IsWellFormed}
 use Rattle.ft_mean.proofs.Agree.{same_truth, same_value}
 use Rattle.ft_mean.proofs.PastLemmas.{next_bit, hyst_first, hyst_next}

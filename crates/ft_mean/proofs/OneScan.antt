@@ -12,14 +12,14 @@ use Rattle.ft_core.specs.declared.tables.Var.{Var}
 use Rattle.ft_core.specs.declared.tables.Side.{Side}
 use Rattle.ft_core.specs.declared.tables.Side.TheVariants as side
 use Rattle.ft_core.specs.declared.tables.Section.{Section}
-use Rattle.ft_core.specs.Grids.{Cell, cells_for, defines}
-use Rattle.ft_core.specs.Kinds.{given_kinds, defined_kinds, side_kinds, section_of}
-use Rattle.ft_core.specs.Reads.{Read, at_now, grid_reads, cell_reads}
-use Rattle.ft_mean.specs.Value.{View, value}
-use Rattle.ft_mean.specs.Reading.{Reading, IsVar}
-use Rattle.ft_mean.specs.Memory.{look}
-use Rattle.ft_mean.specs.Cells.{holding, cells_of, defined}
-use Rattle.ft_mean.specs.Proper.{IsLocal, AllProper}
+use Rattle.ft_core.specs.meaning.Grids.{Cell, cells_for, defines}
+use Rattle.ft_core.specs.meaning.Kinds.{given_kinds, defined_kinds, side_kinds, section_of}
+use Rattle.ft_core.specs.meaning.Reads.{Read, at_now, grid_reads, cell_reads}
+use Rattle.ft_mean.specs.meaning.Value.{View, value}
+use Rattle.ft_mean.specs.meaning.Reading.{Reading, IsVar}
+use Rattle.ft_mean.specs.meaning.Memory.{look}
+use Rattle.ft_mean.specs.meaning.Cells.{holding, cells_of, defined}
+use Rattle.ft_mean.specs.meaning.Proper.{IsLocal, AllProper}
 use Rattle.ft_mean.proofs.Agree.{AllSame}
 use Rattle.ft_mean.proofs.CellLemmas.{OneCell, one_cell, cells_alike, cells_of-is, own_reads, same_defined}
 use Rattle.ft_mean.proofs.WellFormed.{IsOf, IsTable, OnSide, MayRead, IsWellFormed, is_for_from}

@@ -5,8 +5,8 @@ use Rattle.std.specs.List.{list_any, list_all, find, range_with_len}
 use Rattle.std.proofs.lemmas.Int.{ints}
 use Rattle.std.proofs.lemmas.Bool.{and_parts, or_cases, cases_eq, cases_lt}
 use Rattle.std.proofs.lemmas.List.{reverse-append}
-use Rattle.ft_mean.specs.Past.{scans, held, hyst}
-pub use Rattle.ft_mean.specs.PastLaws.{next_bit}
+use Rattle.ft_mean.specs.meaning.Past.{scans, held, hyst}
+pub use Rattle.ft_mean.specs.laws.PastLaws.{next_bit}
 
 module _ (p q : ℕ → Bool) where
   pub same_any : (a n : ℕ) → ((j : ℕ) → a ≤ j → j < a + n → p j ≡ q j) → list_any p (range_with_len a n) ≡ list_any q (range_with_len a n)

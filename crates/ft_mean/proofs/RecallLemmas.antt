@@ -5,11 +5,11 @@ use Rattle.std.specs.List.{Contains, list_all, list_any, zip, range_with_len}
 use Rattle.ft_core.specs.declared.tables.Tables.{Tables}
 use Rattle.ft_core.specs.declared.tables.Var.{Var}
 use Rattle.ft_core.specs.declared.tables.Memory.{Memory}
-use Rattle.ft_core.specs.Size.{var_size}
+use Rattle.ft_core.specs.checked.Size.{var_size}
 use Rattle.ft_mean.specs.declared.seen.Seen.{Seen}
-use Rattle.ft_mean.specs.Reading.{Reading}
-use Rattle.ft_mean.specs.Safe.{IsSafeBy}
-use Rattle.ft_mean.specs.Seen.{view_at, recalled_at, after_rounds}
+use Rattle.ft_mean.specs.meaning.Reading.{Reading}
+use Rattle.ft_mean.specs.judge.Safe.{IsSafeBy}
+use Rattle.ft_mean.specs.judge.Seen.{view_at, recalled_at, after_rounds}
 use Rattle.std.proofs.lemmas.List.{map-append}
 use Rattle.std.proofs.lemmas.Bool.{cases_lt, or_left, or_right}
 use Rattle.std.proofs.lemmas.List.Folds.{list_all-append, list_any-append}

@@ -1,9 +1,9 @@
 -- The places of variables in rows, and what lists of rows tell.
 use Rattle.std.proofs.Common.{◌∙◌, ap, cond, [], length, slice_index_or, pos}
 use Rattle.std.proofs.lemmas.List.{get_or_append_left}
-use Rattle.ft_core.specs.Kinds.{place_of, is_of}
-use Rattle.ft_mean.specs.Reading.{init_of}
-use Rattle.ft_mean.specs.RowLaws.{PlacesAreInside, PlacesAreTaken, SameRows, ReadAtPlace, ReadInRange, ReadInFront, HasRows, GivenOrDefined}
+use Rattle.ft_core.specs.meaning.Kinds.{place_of, is_of}
+use Rattle.ft_mean.specs.meaning.Reading.{init_of}
+use Rattle.ft_mean.specs.laws.RowLaws.{PlacesAreInside, PlacesAreTaken, SameRows, ReadAtPlace, ReadInRange, ReadInFront, HasRows, GivenOrDefined}
 use Rattle.ft_mean.proofs.OneScan.{given_or_defined}
 use Rattle.ft_mean.proofs.Rows.{place-below, placed, same_rows, length-gathered}
 use Rattle.ft_mean.proofs.Traces.{reading_at, reading_range, rows, length-rows, row_at, reading-rows}

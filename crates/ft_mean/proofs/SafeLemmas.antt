@@ -12,12 +12,12 @@ use Rattle.ft_core.specs.declared.term.Term.{Term}
 use Rattle.ft_core.specs.declared.term.Term.TheVariants.{Num, Now, Prev, Age, Neg, Add, Sub, Times, Div}
 use Rattle.ft_core.specs.declared.term.Cond.{Cond}
 use Rattle.ft_core.specs.declared.term.Cond.TheVariants.{Compare, Not, And, Or}
-use Rattle.ft_core.specs.Size.{size_of, is_sized_term, is_sized}
-use Rattle.ft_core.specs.Equations.{term_induction}
-use Rattle.ft_core.specs.SizeEquations.{size-Num, size-Now, size-Prev, size-Age, size-Neg, size-Add, size-Sub, size-Times, size-Div, small-Num, small-Now, small-Prev, small-Age, small-Neg, small-Add, small-Sub, small-Times, small-Div, sized-Compare, sized-Not, sized-And, sized-Or}
-use Rattle.ft_mean.specs.Value.{View, value, truth, compares}
+use Rattle.ft_core.specs.checked.Size.{size_of, is_sized_term, is_sized}
+use Rattle.ft_core.specs.laws.Equations.{term_induction}
+use Rattle.ft_core.specs.laws.SizeEquations.{size-Num, size-Now, size-Prev, size-Age, size-Neg, size-Add, size-Sub, size-Times, size-Div, small-Num, small-Now, small-Prev, small-Age, small-Neg, small-Add, small-Sub, small-Times, small-Div, sized-Compare, sized-Not, sized-And, sized-Or}
+use Rattle.ft_mean.specs.meaning.Value.{View, value, truth, compares}
 use Rattle.ft_mean.proofs.Agree.{value-Num, value-Now, value-Prev, value-Age, value-Neg, value-Add, value-Sub, value-Times, value-Div, truth-Compare, truth-Not, truth-And, truth-Or}
-use Rattle.ft_mean.specs.Safe.{KeepsSizes, IsSafeBy, IsSafe, IsSafeCond}
+use Rattle.ft_mean.specs.judge.Safe.{KeepsSizes, IsSafeBy, IsSafe, IsSafeCond}
 use Rattle.ft_mean.proofs.BoundLemmas.{abs-neg, abs-add, abs-sub, abs-div}
 
 module _ (vars : List Var) (memories : List Memory) where

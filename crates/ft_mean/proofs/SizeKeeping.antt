@@ -12,12 +12,12 @@ use Rattle.ft_core.specs.declared.tables.Table.{Table}
 use Rattle.ft_core.specs.declared.tables.Var.{Var}
 use Rattle.ft_core.specs.declared.tables.Memory.{Memory}
 use Rattle.ft_core.specs.declared.tables.Memory.TheVariants.{Held, Hyst}
-use Rattle.ft_core.specs.Kinds.{is_of}
-use Rattle.ft_core.specs.Size.{var_size, age_size, is_sized, is_sized_grid, is_sized_memory}
-use Rattle.ft_mean.specs.Memory.{kept, kept_of}
-use Rattle.ft_mean.specs.Moves.{span_of}
-use Rattle.ft_mean.specs.Reading.{Reading, before, begins, init_of, scan_before}
-use Rattle.ft_mean.specs.SafetyLaws.{AreValuesOf, AreAgesOf, ViewsKeepSizes, LooksKeepSizes, ListsTellValues, ClausesAreSafe, TablesAreSafe, MemoriesAreSafe, SafeByLess}
+use Rattle.ft_core.specs.meaning.Kinds.{is_of}
+use Rattle.ft_core.specs.checked.Size.{var_size, age_size, is_sized, is_sized_grid, is_sized_memory}
+use Rattle.ft_mean.specs.meaning.Memory.{kept, kept_of}
+use Rattle.ft_mean.specs.laws.Moves.{span_of}
+use Rattle.ft_mean.specs.meaning.Reading.{Reading, before, begins, init_of, scan_before}
+use Rattle.ft_mean.specs.laws.SafetyLaws.{AreValuesOf, AreAgesOf, ViewsKeepSizes, LooksKeepSizes, ListsTellValues, ClausesAreSafe, TablesAreSafe, MemoriesAreSafe, SafeByLess}
 use Rattle.ft_mean.proofs.MovesLaw.{memories_move}
 use Rattle.ft_mean.proofs.SafeLemmas.{safe_by}
 use Rattle.ft_mean.proofs.SideLemmas.{of_none}

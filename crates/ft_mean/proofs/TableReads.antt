@@ -5,11 +5,11 @@ use Rattle.std.specs.List.{flat_map}
 use Rattle.ft_core.specs.declared.tables.Tables.{Tables}
 use Rattle.ft_core.specs.declared.tables.Table.{Table}
 use Rattle.ft_core.specs.declared.tables.Section.{Section}
-use Rattle.ft_core.specs.Grids.{Cell, cells, cells_for, is_section}
-use Rattle.ft_core.specs.Reads.{Read, cell_reads}
-use Rattle.ft_core.specs.Sound.{may_read}
-use Rattle.ft_mean.specs.Cells.{cells_of}
-use Rattle.ft_mean.specs.TableLaws.{HasTable, CellsAreOfTable, CellsMayRead, SameDefined, SectionsAreTold, HasOneValue}
+use Rattle.ft_core.specs.meaning.Grids.{Cell, cells, cells_for, is_section}
+use Rattle.ft_core.specs.meaning.Reads.{Read, cell_reads}
+use Rattle.ft_core.specs.checked.Sound.{may_read}
+use Rattle.ft_mean.specs.meaning.Cells.{cells_of}
+use Rattle.ft_mean.specs.laws.TableLaws.{HasTable, CellsAreOfTable, CellsMayRead, SameDefined, SectionsAreTold, HasOneValue}
 use Rattle.ft_mean.proofs.CellLemmas.{Each, OfCell, each-append, each-filter, reads_each, cells_read, cells_of-is, cells_alike, same_defined}
 use Rattle.ft_mean.proofs.OneScan.{table_of, answer}
 use Rattle.ft_mean.proofs.WellFormed.{opened, same_section, section_self, is_for_from}

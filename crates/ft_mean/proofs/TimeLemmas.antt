@@ -3,7 +3,7 @@ use Rattle.std.proofs.Common.{◌≡◌, ◌∙◌, sym, ap, refl, ℕ, zero, su
 use Rattle.std.proofs.lemmas.Int.{ints}
 use Rattle.std.proofs.Math.Nat.{mul-le-mul_left}
 use Rattle.ft_core.specs.declared.tables.Tables.{Tables}
-use Rattle.ft_mean.specs.Reading.{Reading, begins, begun, elapsed, since}
+use Rattle.ft_mean.specs.meaning.Reading.{Reading, begins, begun, elapsed, since}
 
 -- so many periods
 pub times_none : (p : ℤ) → pos 0 *ℤ p ≡ pos 0

@@ -7,14 +7,14 @@ use Rattle.ft_base.specs.Interval.{IsWithin}
 use Rattle.ft_core.specs.declared.tables.Tables.{Tables}
 use Rattle.ft_core.specs.declared.tables.Var.{Var}
 use Rattle.ft_core.specs.declared.tables.Side.{Side}
-use Rattle.ft_core.specs.Kinds.{Kinds, place_of, is_of, given_kinds, side_kinds, section_of}
-use Rattle.ft_core.specs.Reads.{at_now}
-use Rattle.ft_mean.specs.Reading.{Reading, Scans, IsListOf, IsVar, reading_of, init_of}
-use Rattle.ft_mean.specs.Memory.{look}
-use Rattle.ft_mean.specs.Cells.{defined, Follows}
-use Rattle.ft_mean.specs.Proper.{AllProper}
-use Rattle.ft_mean.specs.Fits.{Fits, Only, side_reading}
-use Rattle.ft_mean.specs.Laws.{FitsOneTrace}
+use Rattle.ft_core.specs.meaning.Kinds.{Kinds, place_of, is_of, given_kinds, side_kinds, section_of}
+use Rattle.ft_core.specs.meaning.Reads.{at_now}
+use Rattle.ft_mean.specs.meaning.Reading.{Reading, Scans, IsListOf, IsVar, reading_of, init_of}
+use Rattle.ft_mean.specs.meaning.Memory.{look}
+use Rattle.ft_mean.specs.meaning.Cells.{defined, Follows}
+use Rattle.ft_mean.specs.meaning.Proper.{AllProper}
+use Rattle.ft_mean.specs.meaning.Fits.{Fits, Only, side_reading}
+use Rattle.ft_mean.specs.laws.Laws.{FitsOneTrace}
 use Rattle.ft_mean.proofs.Rows.{gathered, length-gathered, gathered_at, same_rows}
 use Rattle.ft_mean.proofs.WellFormed.{opened, IsOf, IsWellFormed}
 use Rattle.ft_mean.proofs.MemoryLemmas.{look_local}

@@ -18,11 +18,11 @@ use Rattle.ft_core.specs.declared.tables.Side.{Side}
 use Rattle.ft_core.specs.declared.tables.Side.TheVariants as side
 use Rattle.ft_core.specs.declared.tables.Section.{Section}
 use Rattle.ft_core.specs.declared.tables.Section.TheVariants as section
-use Rattle.ft_core.specs.Kinds.{Kinds, monitored, outputs, side_kinds, defined_kinds, section_of}
-use Rattle.ft_core.specs.Grids.{cells_for, defines, is_section, is_for}
-use Rattle.ft_core.specs.Reads.{Read, at_now, at_before, of_memory, of_age, memory_reads, grid_reads, cell_reads}
-use Rattle.ft_core.specs.Sound.{side_of, is_side, on_side, now_of, may_read, is_current, item_reads, IsRank, HasOrder, IsHold}
-use Rattle.ft_mean.specs.Reading.{IsVar}
+use Rattle.ft_core.specs.meaning.Kinds.{Kinds, monitored, outputs, side_kinds, defined_kinds, section_of}
+use Rattle.ft_core.specs.meaning.Grids.{cells_for, defines, is_section, is_for}
+use Rattle.ft_core.specs.meaning.Reads.{Read, at_now, at_before, of_memory, of_age, memory_reads, grid_reads, cell_reads}
+use Rattle.ft_core.specs.checked.Sound.{side_of, is_side, on_side, now_of, may_read, is_current, item_reads, IsRank, HasOrder, IsHold}
+use Rattle.ft_mean.specs.meaning.Reading.{IsVar}
 
 -- the table at this place, where it is of this section
 abbrev pub IsTable : Tables → Section → ℕ → Table → Type 0

@@ -8,19 +8,19 @@ use Rattle.ft_core.specs.declared.tables.Var.{Var}
 use Rattle.ft_core.specs.declared.tables.Side.{Side}
 use Rattle.ft_core.specs.declared.tables.Side.TheVariants as side
 use Rattle.ft_core.specs.declared.tables.Section.TheVariants as section
-use Rattle.ft_core.specs.Kinds.{Kinds, monitored, controlled, inputs, outputs, given_kinds, side_kinds, section_of, is_of}
-use Rattle.ft_core.specs.Reads.{Read, at_now, at_before, of_memory, of_age}
-use Rattle.ft_mean.specs.Allowed.{Allowed}
-use Rattle.ft_mean.specs.Cells.{defined, Follows}
-use Rattle.ft_mean.specs.EvaluationLaws.{Same}
-use Rattle.ft_mean.specs.Fits.{Fits, InputMap, OutputMap, Only, side_reading}
-use Rattle.ft_mean.specs.Memory.{look}
-use Rattle.ft_mean.specs.Proper.{AllProper}
-use Rattle.ft_mean.specs.Reading.{Reading, Scans, IsListOf, IsVar, reading_of}
-use Rattle.ft_mean.specs.Refines.{Runs, SameAt, FirstDiffers}
-use Rattle.ft_mean.specs.RowLaws.{RowsOf}
-use Rattle.ft_mean.specs.Value.{View}
-use Rattle.ft_mean.specs.Whole.{joint, IsWhole, ReadsAsWhole, RunsAreWhole, WholeSplits, WholesSplit, SplitsAreRuns, SplitsDiffer}
+use Rattle.ft_core.specs.meaning.Kinds.{Kinds, monitored, controlled, inputs, outputs, given_kinds, side_kinds, section_of, is_of}
+use Rattle.ft_core.specs.meaning.Reads.{Read, at_now, at_before, of_memory, of_age}
+use Rattle.ft_mean.specs.meaning.Allowed.{Allowed}
+use Rattle.ft_mean.specs.meaning.Cells.{defined, Follows}
+use Rattle.ft_mean.specs.laws.EvaluationLaws.{Same}
+use Rattle.ft_mean.specs.meaning.Fits.{Fits, InputMap, OutputMap, Only, side_reading}
+use Rattle.ft_mean.specs.meaning.Memory.{look}
+use Rattle.ft_mean.specs.meaning.Proper.{AllProper}
+use Rattle.ft_mean.specs.meaning.Reading.{Reading, Scans, IsListOf, IsVar, reading_of}
+use Rattle.ft_mean.specs.meaning.Refines.{Runs, SameAt, FirstDiffers}
+use Rattle.ft_mean.specs.laws.RowLaws.{RowsOf}
+use Rattle.ft_mean.specs.meaning.Value.{View}
+use Rattle.ft_mean.specs.laws.Whole.{joint, IsWhole, ReadsAsWhole, RunsAreWhole, WholeSplits, WholesSplit, SplitsAreRuns, SplitsDiffer}
 use Rattle.ft_mean.proofs.ByScan.{follows_again}
 use Rattle.ft_mean.proofs.Exists.{given_side}
 use Rattle.ft_mean.proofs.ImageLemmas.{none_given}

@@ -1,6 +1,6 @@
 //! Arithmetic of numbers of at most 10^15 either way, and how numbers compare.
 ghost use Rattle.std.specs.Prelude.{◌≡◌, ◌≤◌, ◌+ℤ◌, ◌-ℤ◌, ◌*ℤ◌, neg_ℤ, unsigned_abs};
-ghost use Rattle.ft_mean.specs.Value.{compares};
+ghost use Rattle.ft_mean.specs.meaning.Value.{compares};
 
 use ft_core::Rel;
 

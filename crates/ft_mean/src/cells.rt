@@ -2,11 +2,11 @@
 ghost use Rattle.std.specs.Prelude.{◌≡◌, ◌==◌, ◌&&◌};
 ghost use Rattle.std.specs.Ordering.{int_eq};
 ghost use Rattle.std.specs.List.{list_any, zip};
-ghost use Rattle.ft_core.specs.Grids.{is_section};
-ghost use Rattle.ft_mean.specs.Cells.{defined};
-ghost use Rattle.ft_mean.specs.Safe.{IsSafe, IsSafeCond, IsSafeGrid, AreSafe, AreSafeConds, AreSafeRows, AreSafeCondRows, AreSafeTables};
-ghost use Rattle.ft_mean.specs.Seen.{gives_in, row_gives, grid_gives};
-ghost use Rattle.ft_mean.specs.Value.{value, truth};
+ghost use Rattle.ft_core.specs.meaning.Grids.{is_section};
+ghost use Rattle.ft_mean.specs.meaning.Cells.{defined};
+ghost use Rattle.ft_mean.specs.judge.Safe.{IsSafe, IsSafeCond, IsSafeGrid, AreSafe, AreSafeConds, AreSafeRows, AreSafeCondRows, AreSafeTables};
+ghost use Rattle.ft_mean.specs.judge.Seen.{gives_in, row_gives, grid_gives};
+ghost use Rattle.ft_mean.specs.meaning.Value.{value, truth};
 
 use crate::evaluating::{truth_of, value_of};
 use crate::look::Look;

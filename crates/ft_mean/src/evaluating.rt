@@ -1,6 +1,6 @@
 ghost use Rattle.std.specs.Prelude.{◌≡◌};
-ghost use Rattle.ft_mean.specs.Value.{value, truth};
-ghost use Rattle.ft_mean.specs.Safe.{IsSafe, IsSafeCond};
+ghost use Rattle.ft_mean.specs.meaning.Value.{value, truth};
+ghost use Rattle.ft_mean.specs.judge.Safe.{IsSafe, IsSafeCond};
 
 use crate::arithmetic::{compare, difference, negated, product, sum};
 use crate::look::Look;

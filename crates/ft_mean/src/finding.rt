@@ -2,10 +2,10 @@
 ghost use Rattle.std.specs.Prelude.{◌≡◌};
 ghost use Rattle.std.specs.List.{find, zip};
 ghost use Rattle.std.specs.Option.{option_map};
-ghost use Rattle.ft_core.specs.Grids.{cells_for};
-ghost use Rattle.ft_mean.specs.Cells.{cell_holds};
-ghost use Rattle.ft_mean.specs.FirstCell.{first_column, first_row, headed_column, target_column};
-ghost use Rattle.ft_mean.specs.Safe.{IsSafeCond, IsSafeGrid, AreSafeConds, AreSafeCondRows};
+ghost use Rattle.ft_core.specs.meaning.Grids.{cells_for};
+ghost use Rattle.ft_mean.specs.meaning.Cells.{cell_holds};
+ghost use Rattle.ft_mean.specs.judge.FirstCell.{first_column, first_row, headed_column, target_column};
+ghost use Rattle.ft_mean.specs.judge.Safe.{IsSafeCond, IsSafeGrid, AreSafeConds, AreSafeCondRows};
 
 use crate::evaluating::truth_of;
 use crate::look::Look;

@@ -1,14 +1,14 @@
 //! The plain and slow judge of a whole trace.
 ghost use Rattle.std.specs.Prelude.{ℕ, ◌≡◌, ◌<◌, ◌↔◌, ◌&&◌, int_le, length, IsTrue, IfOk};
-ghost use Rattle.ft_mean.specs.Fits.{Fits};
-ghost use Rattle.ft_mean.specs.Part.{kinds_of, is_inside, in_range, is_row, is_list, are_lists};
-ghost use Rattle.ft_mean.specs.Part.{at_all, has_given, has_table, is_right, follows_by};
-ghost use Rattle.ft_mean.specs.Safe.{AreSafeTables};
-ghost use Rattle.ft_mean.specs.Seen.{view_at};
+ghost use Rattle.ft_mean.specs.meaning.Fits.{Fits};
+ghost use Rattle.ft_mean.specs.judge.Scope.{kinds_of, is_inside, in_range, is_row, is_list, are_lists};
+ghost use Rattle.ft_mean.specs.judge.Scope.{at_all, has_given, has_table, is_right, follows_by};
+ghost use Rattle.ft_mean.specs.judge.Safe.{AreSafeTables};
+ghost use Rattle.ft_mean.specs.judge.Seen.{view_at};
 
 use crate::cells::is_defined;
-use crate::part::{Part, count_of, is_of, told};
 use crate::recall::recall_all;
+use crate::scope::{Scope, count_of, is_of, recorded};
 use crate::seen::{Seen, SeenAt};
 use crate::telling::seen_of;
 use crate::time::Known;
@@ -32,38 +32,42 @@ fn is_inside(tables: &Tables, variable: usize, value: i64) -> bool
     }
 }
 
-fn in_range(tables: &Tables, part: Part, scans: &History, scan: usize, variable: usize) -> bool
-    ensures { result ≡ in_range tables.now (kinds_of part) scans.now scan variable }
+fn in_range(tables: &Tables, scope: Scope, scans: &History, scan: usize, variable: usize) -> bool
+    ensures { result ≡ in_range tables.now (kinds_of scope) scans.now scan variable }
 {
-    !is_of(tables, part, variable)
-        || is_inside(tables, variable, told(tables, part, scans, scan, variable))
+    !is_of(tables, scope, variable)
+        || is_inside(
+            tables,
+            variable,
+            recorded(tables, scope, scans, scan, variable),
+        )
 }
 
-fn are_in_range(tables: &Tables, part: Part, scans: &History, scan: usize) -> bool
-    ensures { result ≡ at_all tables.now (in_range tables.now (kinds_of part) scans.now scan) }
+fn are_in_range(tables: &Tables, scope: Scope, scans: &History, scan: usize) -> bool
+    ensures { result ≡ at_all tables.now (in_range tables.now (kinds_of scope) scans.now scan) }
 {
     for variable in 0..tables.vars.len() {
-        if !in_range(tables, part, scans, scan, variable) {
+        if !in_range(tables, scope, scans, scan, variable) {
             return false;
         }
     }
     true
 }
 
-fn is_row(tables: &Tables, part: Part, scans: &History, scan: usize) -> bool
+fn is_row(tables: &Tables, scope: Scope, scans: &History, scan: usize) -> bool
     requires { scan < length scans.now }
-    ensures { result ≡ is_row tables.now (kinds_of part) scans.now scan }
+    ensures { result ≡ is_row tables.now (kinds_of scope) scans.now scan }
 {
-    scans.width(scan) == count_of(part, tables.vars.as_slice())
-        && are_in_range(tables, part, scans, scan)
+    scans.width(scan) == count_of(scope, tables.vars.as_slice())
+        && are_in_range(tables, scope, scans, scan)
 }
 
-/// Whether each scan has a value in range for each variable of a part, and no other value.
-fn is_list(tables: &Tables, part: Part, scans: &History) -> bool
-    ensures { result ≡ is_list tables.now (kinds_of part) scans.now }
+/// Whether each scan has a value in range for each variable of a scope, and no other value.
+fn is_list(tables: &Tables, scope: Scope, scans: &History) -> bool
+    ensures { result ≡ is_list tables.now (kinds_of scope) scans.now }
 {
     for scan in 0..scans.scans() {
-        if !is_row(tables, part, scans, scan) {
+        if !is_row(tables, scope, scans, scan) {
             return false;
         }
     }
@@ -80,9 +84,9 @@ fn has_given(
 ) -> bool
     ensures { result ≡ has_given tables.now side given.now trace.now scan variable }
 {
-    !is_of(tables, Part::Given(side), variable)
-        || told(tables, Part::Whole(side), trace, scan, variable)
-            == told(tables, Part::Given(side), given, scan, variable)
+    !is_of(tables, Scope::Given(side), variable)
+        || recorded(tables, Scope::Whole(side), trace, scan, variable)
+            == recorded(tables, Scope::Given(side), given, scan, variable)
 }
 
 fn has_table(
@@ -96,13 +100,13 @@ fn has_table(
     requires { AreSafeTables (view_at seen.now scan) tables.now.tables }
     ensures { result ≡ has_table tables.now side trace.now seen.now scan variable }
 {
-    !is_of(tables, Part::Defined(side), variable)
+    !is_of(tables, Scope::Defined(side), variable)
         || is_defined(
             tables,
             side.section(),
             variable,
             &SeenAt { seen, scan },
-            told(tables, Part::Whole(side), trace, scan, variable),
+            recorded(tables, Scope::Whole(side), trace, scan, variable),
         )
 }
 
@@ -158,8 +162,8 @@ fn follows(tables: &Tables, side: Side, given: &History, trace: &Trace, seen: &S
 fn are_lists(tables: &Tables, side: Side, given: &History, trace: &Trace) -> bool
     ensures { result ≡ are_lists tables.now side given.now trace.now }
 {
-    is_list(tables, Part::Given(side), given)
-        && is_list(tables, Part::Whole(side), trace)
+    is_list(tables, Scope::Given(side), given)
+        && is_list(tables, Scope::Whole(side), trace)
         && trace.scans() == given.scans()
 }
 
@@ -176,10 +180,10 @@ pub fn fits_list(
     if !are_lists(tables, side, given, trace) {
         return Ok(false);
     }
-    let start = seen_of(alloc, tables, Part::Whole(side), trace)?;
+    let start = seen_of(alloc, tables, Scope::Whole(side), trace)?;
     let known = Known {
         tables,
-        part: Part::Whole(side),
+        scope: Scope::Whole(side),
         scans: trace,
     };
     let seen = recall_all(alloc, &known, start)?;

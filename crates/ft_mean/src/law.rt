@@ -1,14 +1,13 @@
-ghost use Rattle.ft_mean.specs.EvaluationLaws.{SameValue, SameTruth, SameTruths, SameCell, SameHolding};
-ghost use Rattle.ft_mean.specs.LookLaws.{MemoriesRemember, SidesReadNoAge, LooksAreLinked, SideLooksSame, SideFollowsSame, NatSame, LooksAreLocal};
-ghost use Rattle.ft_mean.specs.OneColumnTests.{SoundByTests, ProperByRows};
-ghost use Rattle.ft_mean.specs.PastLaws.{SameHeld, SameAge, SameHyst, HystBegins, HystGoesOn, AgeBegins, AgeGoesOn, HeldByAge};
-ghost use Rattle.ft_mean.specs.RowLaws.{PlacesAreInside, PlacesAreTaken, SameRows, ReadAtPlace, ReadInRange, ReadInFront, HasRows, GivenOrDefined};
-ghost use Rattle.ft_mean.specs.SafetyLaws.{ViewsKeepSizes, LooksKeepSizes, ListsTellValues, ClausesAreSafe, TablesAreSafe, MemoriesAreSafe, SafeByLess};
-ghost use Rattle.ft_mean.specs.TableLaws.{HasTable, CellsAreOfTable, CellsReadTheirs, OwnReads, CellsMayRead, SameDefined, SectionsAreTold, HasOneValue};
-ghost use Rattle.ft_mean.specs.TimeLaws.{ElapsedUp, SinceNone, SinceNext, SinceFalls, BegunLow, BegunHere, BegunPast};
-ghost use Rattle.ft_mean.specs.TraceLaws.{FitsLonger, AllowedShorter, FitsShorter, InputsShorter, OutputsShorter, SameFront, DiffersShorter};
-ghost use Rattle.ft_mean.specs.Whole.{RunsAreWhole, WholesSplit, SplitsAreRuns, SplitsDiffer};
-ghost use Rattle.ft_mean.specs.Laws.{FitsOneTrace, HasOneImage, HeldIsFullAge, MemoriesMove, MapsByScan, OutputsAlone, AllowedByScan};
+ghost use Rattle.ft_mean.specs.laws.EvaluationLaws.{SameValue, SameTruth, SameTruths, SameCell, SameHolding};
+ghost use Rattle.ft_mean.specs.laws.LookLaws.{MemoriesRemember, SidesReadNoAge, LooksAreLinked, SideLooksSame, SideFollowsSame, NatSame, LooksAreLocal};
+ghost use Rattle.ft_mean.specs.laws.PastLaws.{SameHeld, SameAge, SameHyst, HystBegins, HystGoesOn, AgeBegins, AgeGoesOn, HeldByAge};
+ghost use Rattle.ft_mean.specs.laws.RowLaws.{PlacesAreInside, PlacesAreTaken, SameRows, ReadAtPlace, ReadInRange, ReadInFront, HasRows, GivenOrDefined};
+ghost use Rattle.ft_mean.specs.laws.SafetyLaws.{ViewsKeepSizes, LooksKeepSizes, ListsTellValues, ClausesAreSafe, TablesAreSafe, MemoriesAreSafe, SafeByLess};
+ghost use Rattle.ft_mean.specs.laws.TableLaws.{HasTable, CellsAreOfTable, CellsReadTheirs, OwnReads, CellsMayRead, SameDefined, SectionsAreTold, HasOneValue};
+ghost use Rattle.ft_mean.specs.laws.TimeLaws.{ElapsedUp, SinceNone, SinceNext, SinceFalls, BegunLow, BegunHere, BegunPast};
+ghost use Rattle.ft_mean.specs.laws.TraceLaws.{FitsLonger, AllowedShorter, FitsShorter, InputsShorter, OutputsShorter, SameFront, DiffersShorter};
+ghost use Rattle.ft_mean.specs.laws.Whole.{RunsAreWhole, WholesSplit, SplitsAreRuns, SplitsDiffer};
+ghost use Rattle.ft_mean.specs.laws.Laws.{FitsOneTrace, HasOneImage, HeldIsFullAge, MemoriesMove, MapsByScan, OutputsAlone, AllowedByScan};
 
 /// Where every table is proper, every given list in range fits exactly one trace of its side.
 pub fn one_trace()
@@ -148,10 +147,4 @@ pub fn safety_laws()
     ensures tables { TablesAreSafe }
     ensures memories { MemoriesAreSafe }
     ensures by_less { SafeByLess }
-{}
-
-/// A set of tables with one column is sound where tests that compute pass, and proper where exactly one row of each table holds.
-pub fn one_column_laws()
-    ensures sound { SoundByTests }
-    ensures proper { ProperByRows }
 {}

@@ -9,8 +9,8 @@ mod finding;
 mod judge;
 mod law;
 mod look;
-mod part;
 mod recall;
+mod scope;
 mod seen;
 mod telling;
 mod time;
@@ -22,9 +22,9 @@ pub use finding::first_cell;
 pub use judge::fits_list;
 pub use law::{
     allowed_by_scan, evaluation_laws, held_is_full_age, look_laws, maps_by_scan, memories_move,
-    memory_laws, one_column_laws, one_image, one_trace, outputs_alone, past_laws, row_laws,
-    safety_laws, table_laws, time_laws, trace_laws, whole_laws,
+    memory_laws, one_image, one_trace, outputs_alone, past_laws, row_laws, safety_laws, table_laws,
+    time_laws, trace_laws, whole_laws,
 };
 pub use look::Look;
-pub use part::Part;
+pub use scope::Scope;
 pub use trace::Trace;

@@ -1,5 +1,5 @@
 ghost use Rattle.std.specs.Prelude.{◌≡◌};
-ghost use Rattle.ft_mean.specs.Value.{View};
+ghost use Rattle.ft_mean.specs.meaning.Value.{View};
 
 /// All that a term or a condition asks of a scan. Variables and memories are named by their places in the set.
 ///

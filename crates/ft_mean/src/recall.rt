@@ -2,12 +2,12 @@
 ghost use Rattle.std.specs.Prelude.{ℕ, ◌≡◌, ◌≤◌, ◌<◌, ◌+◌, ◌&&◌};
 ghost use Rattle.std.specs.Prelude.{int_le, map, length, IfOk};
 ghost use Rattle.std.specs.List.{list_all, range_with_len};
-ghost use Rattle.ft_mean.specs.Part.{told_by};
-ghost use Rattle.ft_mean.specs.Past.{scans, held, hyst};
-ghost use Rattle.ft_mean.specs.Reading.{begun, since};
-ghost use Rattle.ft_mean.specs.Safe.{IsSafe, IsSafeCond, IsSafeMemory, AreSafeMemories};
-ghost use Rattle.ft_mean.specs.Seen.{view_at, recalled, recalled_at, after_rounds};
-ghost use Rattle.ft_mean.specs.Value.{value, truth};
+ghost use Rattle.ft_mean.specs.judge.Scope.{reading_by};
+ghost use Rattle.ft_mean.specs.meaning.Past.{scans, held, hyst};
+ghost use Rattle.ft_mean.specs.meaning.Reading.{begun, since};
+ghost use Rattle.ft_mean.specs.judge.Safe.{IsSafe, IsSafeCond, IsSafeMemory, AreSafeMemories};
+ghost use Rattle.ft_mean.specs.judge.Seen.{view_at, recalled, recalled_at, after_rounds};
+ghost use Rattle.ft_mean.specs.meaning.Value.{value, truth};
 
 use crate::evaluating::{truth_of, value_of};
 use crate::seen::{Seen, SeenAt};
@@ -42,7 +42,7 @@ fn was_held_from(
     requires safe { (t : ℕ) → IsSafeCond (view_at seen.now t) cond.now }
     requires past { from ≤ scan }
     requires last { scan + 1 < 18446744073709551616 }
-    ensures { result ≡ (int_le hold (since known.now.tables.now (told_by known.now.tables.now known.now.part known.now.scans.now) from scan)
+    ensures { result ≡ (int_le hold (since known.now.tables.now (reading_by known.now.tables.now known.now.scope known.now.scans.now) from scan)
         && list_all (λ j. truth (view_at seen.now j) cond.now) (scans from scan)) }
 {
     i128::from(hold) <= since(known, from, scan) && is_true_from(cond, seen, from, scan)
@@ -53,7 +53,7 @@ fn was_held(cond: &Cond, hold: i64, known: &Known, seen: &Seen, begun: usize, sc
     requires safe { (t : ℕ) → IsSafeCond (view_at seen.now t) cond.now }
     requires begun { begun ≤ scan }
     requires last { scan + 1 < 18446744073709551616 }
-    ensures { result ≡ held begun (λ j. since known.now.tables.now (told_by known.now.tables.now known.now.part known.now.scans.now) j scan) hold
+    ensures { result ≡ held begun (λ j. since known.now.tables.now (reading_by known.now.tables.now known.now.scope known.now.scans.now) j scan) hold
         (λ j. truth (view_at seen.now j) cond.now) scan }
 {
     for from in begun..scan + 1 {
@@ -100,8 +100,8 @@ fn was_met(
 pub(crate) fn is_recalled(memory: &Memory, known: &Known, seen: &Seen, scan: usize) -> bool
     requires safe { (t : ℕ) → IsSafeMemory (view_at seen.now t) memory.now }
     requires last { scan + 1 < 18446744073709551616 }
-    ensures { result ≡ recalled (begun known.now.tables.now (told_by known.now.tables.now known.now.part known.now.scans.now) scan)
-        (λ j. since known.now.tables.now (told_by known.now.tables.now known.now.part known.now.scans.now) j scan) seen.now memory.now scan }
+    ensures { result ≡ recalled (begun known.now.tables.now (reading_by known.now.tables.now known.now.scope known.now.scans.now) scan)
+        (λ j. since known.now.tables.now (reading_by known.now.tables.now known.now.scope known.now.scans.now) j scan) seen.now memory.now scan }
 {
     let from = begun(known, scan);
     match memory {
@@ -124,7 +124,7 @@ fn recalled_row(
 ) -> Result<List<bool>, NoMemory>
     requires safe { (t : ℕ) → AreSafeMemories (view_at seen.now t) known.now.tables.now.memories }
     requires last { scan + 1 < 18446744073709551616 }
-    ensures { IfOk result (λ row. row ≡ recalled_at known.now.tables.now (told_by known.now.tables.now known.now.part known.now.scans.now) seen.now scan) }
+    ensures { IfOk result (λ row. row ≡ recalled_at known.now.tables.now (reading_by known.now.tables.now known.now.scope known.now.scans.now) seen.now scan) }
 {
     let mut row = List::new(alloc);
     for memory in known.tables.memories.as_slice() {
@@ -140,7 +140,7 @@ pub(crate) fn recalled_rows(
     seen: &Seen,
 ) -> Result<List<List<bool>>, NoMemory>
     requires { (t : ℕ) → AreSafeMemories (view_at seen.now t) known.now.tables.now.memories }
-    ensures { IfOk result (λ bits. bits ≡ map (recalled_at known.now.tables.now (told_by known.now.tables.now known.now.part known.now.scans.now) seen.now) (range_with_len 0 (length seen.now.rows))) }
+    ensures { IfOk result (λ bits. bits ≡ map (recalled_at known.now.tables.now (reading_by known.now.tables.now known.now.scope known.now.scans.now) seen.now) (range_with_len 0 (length seen.now.rows))) }
 {
     let mut bits = List::new(alloc);
     for scan in 0..seen.rows.scans() {
@@ -152,7 +152,7 @@ pub(crate) fn recalled_rows(
 /// The same scans, with the truths of the memories after so many rounds.
 fn recall(alloc: Global, known: &Known, start: Seen, rounds: usize) -> Result<Seen, NoMemory>
     requires { (t : ℕ) → AreSafeMemories (view_at start t) known.now.tables.now.memories }
-    ensures { IfOk result (λ seen. seen ≡ after_rounds known.now.tables.now (told_by known.now.tables.now known.now.part known.now.scans.now) rounds start) }
+    ensures { IfOk result (λ seen. seen ≡ after_rounds known.now.tables.now (reading_by known.now.tables.now known.now.scope known.now.scans.now) rounds start) }
 {
     let mut seen = start;
     for _round in 0..rounds {
@@ -165,7 +165,7 @@ fn recall(alloc: Global, known: &Known, start: Seen, rounds: usize) -> Result<Se
 /// their number.
 pub(crate) fn recall_all(alloc: Global, known: &Known, start: Seen) -> Result<Seen, NoMemory>
     requires { (t : ℕ) → AreSafeMemories (view_at start t) known.now.tables.now.memories }
-    ensures { IfOk result (λ seen. seen ≡ after_rounds known.now.tables.now (told_by known.now.tables.now known.now.part known.now.scans.now) (length known.now.tables.now.vars + length known.now.tables.now.memories) start) }
+    ensures { IfOk result (λ seen. seen ≡ after_rounds known.now.tables.now (reading_by known.now.tables.now known.now.scope known.now.scans.now) (length known.now.tables.now.vars + length known.now.tables.now.memories) start) }
 {
     let half = recall(alloc, known, start, known.tables.memories.len())?;
     let seen = recall(alloc, known, half, known.tables.vars.len())?;

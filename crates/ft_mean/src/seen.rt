@@ -1,6 +1,6 @@
 //! Finished scans as the judge keeps them.
 ghost use Rattle.std.specs.Prelude.{◌≡◌, pos, negsuc, false, [], slice_index_or};
-ghost use Rattle.ft_mean.specs.Seen.{view_at};
+ghost use Rattle.ft_mean.specs.judge.Seen.{view_at};
 
 use crate::look::Look;
 use ft_base::List;

@@ -1,30 +1,30 @@
 //! Where known scans begin, and the time between them.
 ghost use Rattle.std.specs.Prelude.{◌≡◌, ◌≤◌, pos, ◌*ℤ◌, unsigned_abs};
-ghost use Rattle.ft_core.specs.Sound.{IsPeriod};
-ghost use Rattle.ft_mean.specs.Part.{told_by};
-ghost use Rattle.ft_mean.specs.Reading.{begins, begun, since};
+ghost use Rattle.ft_core.specs.checked.Sound.{IsPeriod};
+ghost use Rattle.ft_mean.specs.judge.Scope.{reading_by};
+ghost use Rattle.ft_mean.specs.meaning.Reading.{begins, begun, since};
 
-use crate::part::Part;
+use crate::scope::Scope;
 use ft_core::{History, Tables};
 
-/// Known scans of a part of a set.
+/// Known scans of a scope of a set.
 #[derive(Clone, Copy)]
 pub(crate) struct Known<'a> {
     pub tables: &'a Tables,
-    pub part: Part,
+    pub scope: Scope,
     pub scans: &'a History,
 }
 
 /// Whether a scan begins: nothing of a scan before is known there.
 pub(crate) fn begins(known: &Known, scan: usize) -> bool
-    ensures { result ≡ begins known.now.tables.now (told_by known.now.tables.now known.now.part known.now.scans.now) scan }
+    ensures { result ≡ begins known.now.tables.now (reading_by known.now.tables.now known.now.scope known.now.scans.now) scan }
 {
     scan == 0
 }
 
 /// The last scan at or before this one that begins.
 pub(crate) fn begun(known: &Known, scan: usize) -> usize
-    ensures { result ≡ begun known.now.tables.now (told_by known.now.tables.now known.now.part known.now.scans.now) scan }
+    ensures { result ≡ begun known.now.tables.now (reading_by known.now.tables.now known.now.scope known.now.scans.now) scan }
 {
     for back in 0..scan {
         if begins(known, scan - back) {
@@ -52,7 +52,7 @@ fn span_of(scans: usize, period: i64) -> i128
 /// The milliseconds from one scan to another.
 pub(crate) fn since(known: &Known, from: usize, to: usize) -> i128
     requires { from ≤ to }
-    ensures { result ≡ since known.now.tables.now (told_by known.now.tables.now known.now.part known.now.scans.now) from to }
+    ensures { result ≡ since known.now.tables.now (reading_by known.now.tables.now known.now.scope known.now.scans.now) from to }
 {
     span_of(to - from, known.tables.period)
 }

@@ -1,8 +1,8 @@
 -- A band's bit goes on by one scan at a time.
 use Rattle.std.proofs.Common.{◌≡◌, ◌∙◌, sym, ap, suc, ℤ, pos, Bool, List, [], ◌∷◌, ◌++◌, length, arith}
 use Rattle.std.proofs.lemmas.List.{get_or_push, get_or_append_left, length_push}
-use Rattle.ft_mean.specs.Past.{hyst}
-use Rattle.ft_mean.specs.PastLaws.{next_bit, HystBegins, HystGoesOn, SameHyst}
+use Rattle.ft_mean.specs.meaning.Past.{hyst}
+use Rattle.ft_mean.specs.laws.PastLaws.{next_bit, HystBegins, HystGoesOn, SameHyst}
 use Rattle.ft_memo.specs.Band.{number_at, hyst_after}
 
 module _ (begins : HystBegins) (goes_on_by : HystGoesOn) (same_hyst : SameHyst) (lo hi : ℤ) (start : Bool) where

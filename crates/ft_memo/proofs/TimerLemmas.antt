@@ -2,8 +2,8 @@
 use Rattle.std.proofs.Common.{◌≡◌, ◌∙◌, sym, ap, suc, ◌-◌, ℤ, pos, ◌≤ℤ◌, Bool, false, List, [], ◌∷◌, ◌++◌, length, arith}
 use Rattle.std.specs.Prelude.{int_le}
 use Rattle.std.proofs.lemmas.List.{get_or_push, get_or_append_left, length_push}
-use Rattle.ft_mean.specs.Past.{held, age}
-use Rattle.ft_mean.specs.PastLaws.{next_age, AgeBegins, AgeGoesOn, SameAge, HeldByAge}
+use Rattle.ft_mean.specs.meaning.Past.{held, age}
+use Rattle.ft_mean.specs.laws.PastLaws.{next_age, AgeBegins, AgeGoesOn, SameAge, HeldByAge}
 use Rattle.ft_memo.specs.Timer.{ago, truth_at, held_after, age_after}
 use Rattle.ft_memo.proofs.AgoLemmas.{ago_none, ago_next, ago_up, ago_falls}
 

@@ -1,6 +1,6 @@
 -- What a band says at the last scan of a list of numbers, one a scan.
 use Rattle.std.specs.Prelude.{ℕ, ◌≡◌, ℤ, pos, ◌<ℤ◌, Bool, List, [], ◌∷◌, length, slice_index_or}
-use Rattle.ft_mean.specs.Past.{hyst}
+use Rattle.ft_mean.specs.meaning.Past.{hyst}
 
 -- a band as its callers see it: its bounds, its start, and the number at each scan so far
 pub record Banded : Type 0 where

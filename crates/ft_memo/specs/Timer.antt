@@ -1,7 +1,7 @@
 -- What a timer says at the last scan of a list of truths, one a scan.
 use Rattle.std.specs.Prelude.{ℕ, ◌-◌, ◌≡◌, ℤ, pos, negsuc, ◌*ℤ◌, Bool, false, List, [], ◌∷◌, length, slice_index_or}
-use Rattle.ft_core.specs.Sound.{IsHold, IsPeriod}
-use Rattle.ft_mean.specs.Past.{held, age}
+use Rattle.ft_core.specs.checked.Sound.{IsHold, IsPeriod}
+use Rattle.ft_mean.specs.meaning.Past.{held, age}
 
 -- a timer as its callers see it: its hold and the time from scan to scan in milliseconds, and the truth at each scan so far
 pub record Timed : Type 0 where

@@ -68,7 +68,7 @@ impl Band {
         past_laws();
         let bit = next_bit(self.lo, self.hi, self.bit, now);
         self.bit = bit;
-        self.past = self.past.with(&now);
+        self.past = self.past.followed_by(&now);
         bit
     }
 }

@@ -1,6 +1,6 @@
 ghost use Rattle.std.specs.Prelude.{◌≡◌, ◌++◌, [], ◌∷◌, ◌≤ℤ◌, ◌+ℤ◌, pos, negsuc, int_le, if◌then◌else◌};
 ghost use Rattle.std.specs.Int.{int_min};
-ghost use Rattle.ft_core.specs.Sound.{IsHold, IsPeriod};
+ghost use Rattle.ft_core.specs.checked.Sound.{IsHold, IsPeriod};
 ghost use Rattle.ft_memo.specs.Timer.{held_after, age_after};
 
 use crate::told::Told;
@@ -70,7 +70,7 @@ impl Timer {
         past_laws();
         let age = next_age(self.hold, self.period, self.age, now);
         self.age = age;
-        self.past = self.past.with(&now);
+        self.past = self.past.followed_by(&now);
         age >= self.hold
     }
 

@@ -24,7 +24,7 @@ impl<T> Told<T> {
     }
 
     /// These and one more at the end.
-    pub fn with(&self, _now: &T) -> Told<T>
+    pub fn followed_by(&self, _now: &T) -> Told<T>
         ensures { result.items ≡ self.now.items ++ _now.now ∷ [] }
     {
         Told { of: PhantomData }

@@ -12,7 +12,7 @@ use Rattle.ft_read.specs.declared.stop.Pass.{Pass}
 use Rattle.ft_read.specs.declared.stop.Stop.TheVariants.{Syntax, Limit, NoMemory}
 use Rattle.std.specs.Bool.{MatchBool}
 use Rattle.ft_lex.specs.declared.token.Token.{Token}
-use Rattle.ft_lex.specs.Tokens.{AreTokensFrom, IsTokens, is_last}
+use Rattle.ft_lex.specs.meaning.Tokens.{AreTokensFrom, IsTokens, is_last}
 use Rattle.ft_parse.proofs.InnerTokens.{AllInner, set-ends}
 use Rattle.ft_parse.proofs.ItemRules.{rule-set}
 use Rattle.ft_parse.proofs.Faithful.{Faithful, two-parts}

@@ -3,7 +3,7 @@
 use Rattle.std.proofs.Common.{◌≡◌, ◌∙◌, refl, sym, ap, subst, ℕ, List, [], ◌∷◌, ◌++◌, ◌⊎◌, inl, inr, Option, Some, append_assoc}
 use Rattle.std.proofs.lemmas.List.{append-nil, map-append}
 use Rattle.ft_base.specs.declared.place.Place.{Place}
-use Rattle.ft_lex.specs.Tokens.{OneTokens}
+use Rattle.ft_lex.specs.meaning.Tokens.{OneTokens}
 use Rattle.ft_tree.specs.declared.tree.Tree.{Tree}
 use Rattle.ft_read.specs.meaning.Lexeme.{Lexeme, lexemes_of}
 use Rattle.ft_parse.specs.meaning.Language.{PassNoLimit, Step, lexemes, step}

@@ -8,7 +8,7 @@ use Rattle.std.specs.List.{list_all, list_any}
 use Rattle.std.specs.Str.{bytes_eq}
 use Rattle.ft_lex.specs.declared.token.TokenKind.{TokenKind}
 use Rattle.ft_lex.specs.declared.token.TokenKind.TheVariants as kind
-use Rattle.ft_lex.specs.Tokens.{is_sign_kind, is_word_kind}
+use Rattle.ft_lex.specs.meaning.Tokens.{is_sign_kind, is_word_kind}
 use Rattle.ft_read.specs.meaning.Lexeme.{Lexeme, as_end, as_name, as_number, as_sign, as_word, or_else}
 use Rattle.ft_read.specs.meaning.Limit.{is_name_kind, is_number_kind}
 use Rattle.ft_read.specs.parsers.Combinators.{can, is_some}

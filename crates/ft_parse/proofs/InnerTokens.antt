@@ -4,7 +4,7 @@ use Rattle.std.proofs.Common.{Option, Some, None, refl, sym, ap, append_assoc}
 use Rattle.ft_base.specs.declared.place.Place.{Place}
 use Rattle.ft_lex.specs.declared.token.TokenKind.{TokenKind}
 use Rattle.ft_lex.specs.declared.token.TokenKind.TheVariants as token_kind
-use Rattle.ft_lex.specs.Tokens.{is_last}
+use Rattle.ft_lex.specs.meaning.Tokens.{is_last}
 use Rattle.ft_tree.specs.declared.expr.Expr.{Expr}
 use Rattle.ft_tree.specs.declared.expr.Expr.TheVariants as expr
 use Rattle.ft_tree.specs.declared.item.Item.{Item}

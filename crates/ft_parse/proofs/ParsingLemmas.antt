@@ -3,7 +3,7 @@ use Rattle.std.proofs.Common.{◌≡◌, ◌∙◌, refl, sym, ap, subst, ℕ, L
 use Rattle.std.proofs.Props.{props}
 use mathlib.Core.HLevel.{is_prop→PathP}
 use Rattle.ft_lex.specs.declared.token.Token.{Token}
-use Rattle.ft_lex.specs.Tokens.{IsTokens}
+use Rattle.ft_lex.specs.meaning.Tokens.{IsTokens}
 use Rattle.ft_tree.specs.declared.item.Item.{Item}
 use Rattle.ft_tree.specs.declared.item.Number.{Number}
 use Rattle.ft_tree.specs.declared.tree.Tree.{Tree}

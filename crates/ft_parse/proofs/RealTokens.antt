@@ -9,7 +9,7 @@ use Rattle.ft_lex.specs.declared.token.Token.{Token}
 use Rattle.ft_lex.specs.declared.token.TokenKind.{TokenKind}
 use Rattle.ft_lex.specs.declared.token.TokenKind.TheVariants as kind
 use Rattle.ft_base.specs.Names.{begins_by_letter, is_letter, is_name, is_name_byte, is_reserved_word}
-use Rattle.ft_lex.specs.Tokens.{AreTokensFrom, IsNameShape, IsShape, is_last}
+use Rattle.ft_lex.specs.meaning.Tokens.{AreTokensFrom, IsNameShape, IsShape, is_last}
 use Rattle.ft_tree.specs.declared.item.Number.{Number}
 use Rattle.ft_tree.specs.declared.item.Word.{Word}
 use Rattle.ft_tree.specs.meaning.Limits.{is_number}

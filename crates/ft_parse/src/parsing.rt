@@ -1,6 +1,6 @@
 ghost use Rattle.std.specs.Prelude.{◌≡◌, ◌<◌, ◌-◌, ◌^◌, List, length, IfOk, IfErr};
 ghost use Rattle.std.specs.List.{All};
-ghost use Rattle.ft_lex.specs.Tokens.{IsTokens, LiesIn};
+ghost use Rattle.ft_lex.specs.meaning.Tokens.{IsTokens, LiesIn};
 ghost use Rattle.ft_tree.specs.declared.tree.Tree.{Tree};
 ghost use Rattle.ft_tree.specs.meaning.Canonical.{canonical};
 ghost use Rattle.ft_tree.specs.meaning.Limits.{IsSet};

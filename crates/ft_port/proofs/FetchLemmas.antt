@@ -6,10 +6,10 @@ use Rattle.ft_port.specs.Reads.{Read, given, joined, read_of, HasEnded}
 use Rattle.ft_port.specs.Shelf.{ReadsFrom, reached}
 
 -- the text is the front of what the reads gave
-pub record SoFar (told : Option (List ℕ)) (reads : List Read) (limit : ℕ) (text : List ℕ) : Type 0 where
+pub record SoFar (content : Option (List ℕ)) (reads : List Read) (limit : ℕ) (text : List ℕ) : Type 0 where
   pub short : length text ≤ limit
-  pub inside : (file : List ℕ) → told ≡ Some file → length text ≤ length file
-  pub part : (file : List ℕ) → told ≡ Some file → text ≡ take (length text) file
+  pub inside : (file : List ℕ) → content ≡ Some file → length text ≤ length file
+  pub part : (file : List ℕ) → content ≡ Some file → text ≡ take (length text) file
   pub front : take (length text) (given reads) ≡ text
   pub less : length text ≤ length (given reads)
 
@@ -26,11 +26,11 @@ pub next : (E : Type 0) (reads now : List Read) (text into : List ℕ) (place n 
 next E reads now text into place n at front less is =
     ap given is ∙ ap (λ p. joined (given reads) p (Some (take n into))) at ∙ joins (given reads) text (take n into) front less
 
-module _ {E : Type 0} (told told_now : List ℕ → Option (List ℕ)) (reads now : List Read) (name : List ℕ) (limit place n : ℕ) (text into : List ℕ)
-    (same : told_now ≡ told) (at : place ≡ length text) (so_far : SoFar (told name) reads limit text)
+module _ {E : Type 0} (content told_now : List ℕ → Option (List ℕ)) (reads now : List Read) (name : List ℕ) (limit place n : ℕ) (text into : List ℕ)
+    (same : told_now ≡ content) (at : place ≡ length text) (so_far : SoFar (content name) reads limit text)
     (read : ReadsFrom {E = E} (told_now name) place (Ok n) into) (is : now ≡ read_of {E = E} place (Ok n) into ∷ reads) where
-  reads_here : ReadsFrom {E = E} (told name) (length text) (Ok n) into
-  reads_here = subst (λ p. ReadsFrom {E = E} (told name) p (Ok n) into) at (subst (λ f. ReadsFrom {E = E} (f name) place (Ok n) into) same read)
+  reads_here : ReadsFrom {E = E} (content name) (length text) (Ok n) into
+  reads_here = subst (λ p. ReadsFrom {E = E} (content name) p (Ok n) into) at (subst (λ f. ReadsFrom {E = E} (f name) place (Ok n) into) same read)
 
   pub known : given now ≡ text ++ take n into
   known = next E reads now text into place n at so_far.front so_far.less is
@@ -39,7 +39,7 @@ module _ {E : Type 0} (told told_now : List ℕ → Option (List ℕ)) (reads no
   long = length-append text (take n into) ∙ ap (λ m. length text + m) (length-take-le n into reads_here.within)
 
   -- one more read that gave something
-  pub more : n ≢ 0 → length text + n ≤ limit → SoFar (told name) now limit (text ++ take n into)
+  pub more : n ≢ 0 → length text + n ≤ limit → SoFar (content name) now limit (text ++ take n into)
   more some fits = record {
     short = omega (arith, long, fits);
     inside = λ file e. omega (arith, long, so_far.inside file e, reads_here.inside file e, some);
@@ -49,7 +49,7 @@ module _ {E : Type 0} (told told_now : List ℕ → Option (List ℕ)) (reads no
   }
 
   -- a read that gave nothing
-  pub done : n ≡ 0 → 0 < length into → IsFile (told name) now limit text
+  pub done : n ≡ 0 → 0 < length into → IsFile (content name) now limit text
   done none room =
       let nothing : text ++ take n into ≡ text = (λ i. text ++ take (none i) into) ∙ append-nil text in
       record {

@@ -3,11 +3,11 @@ use Rattle.std.specs.Prelude.{◌≡◌, ◌≢◌, ◌⊎◌, ◌↔◌, ℕ, �
 use Rattle.ft_port.specs.Reads.{Read}
 
 -- a read filled the first n bytes; where the file is told these are its bytes from the place on, and none only where none can be
-pub record ReadsFrom {E : Type 0} (told : Option (List ℕ)) (place : ℕ) (result : Result ℕ E) (into : List ℕ) : Type 0 where
+pub record ReadsFrom {E : Type 0} (content : Option (List ℕ)) (place : ℕ) (result : Result ℕ E) (into : List ℕ) : Type 0 where
   pub within : IfOk result (λ n. n ≤ length into)
-  pub bytes : (file : List ℕ) → told ≡ Some file → IfOk result (λ n. take n into ≡ take n (drop place file))
-  pub inside : (file : List ℕ) → told ≡ Some file → IfOk result (λ n. n ≤ length file - place)
-  pub ended : (file : List ℕ) → told ≡ Some file → IfOk result (λ n. (n ≡ 0) ↔ ((length into ≡ 0) ⊎ (length file ≤ place)))
+  pub bytes : (file : List ℕ) → content ≡ Some file → IfOk result (λ n. take n into ≡ take n (drop place file))
+  pub inside : (file : List ℕ) → content ≡ Some file → IfOk result (λ n. n ≤ length file - place)
+  pub ended : (file : List ℕ) → content ≡ Some file → IfOk result (λ n. (n ≡ 0) ↔ ((length into ≡ 0) ⊎ (length file ≤ place)))
 
 -- how far the reads came after one more read of n bytes; a count of 64 bits stands still at its last value
 abbrev pub reached : (before place n : ℕ) → ℕ

@@ -33,7 +33,7 @@ pub fn note_read(
     ensures others { OthersStay name.now (reach_by counts.old) (reach_by counts.new) (faults_by counts.old) (faults_by counts.new) (reads_by counts.old) (reads_by counts.new) }
 {
     match place_of(counts, name) {
-        Some(at) => counts[at].note(place, given, into),
+        Some(at) => counts[at].count_read(place, given, into),
         None => unreachable!(),
     }
 }

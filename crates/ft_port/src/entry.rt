@@ -32,13 +32,13 @@ impl Entry {
     }
 
     /// Notes what a read from `place` on gave.
-    pub fn note(&mut self, place: u64, given: Result<usize, Failed>, into: &[u8])
+    pub fn count_read(&mut self, place: u64, given: Result<usize, Failed>, into: &[u8])
         ensures name { self.new.name ≡ self.old.name }
         ensures reach { Reaches self.old.reach self.new.reach place given }
         ensures cause { HasCause self.old.faults self.new.faults given }
         ensures reads { self.new.reads.list ≡ read_of place given into.now ∷ self.old.reads.list }
     {
-        self.reads = self.reads.with(&place, &given, into);
+        self.reads = self.reads.followed_by(&place, &given, into);
         match given {
             Ok(0) => {}
             Ok(count) => self.reach = self.reach.max(place.saturating_add(count as u64)),

@@ -53,7 +53,7 @@ fn read_at<R: Files>(rt: &R, name: &str, place: u64, into: &mut [u8]) -> io::Res
 impl<R: Files + Drop> Shelf for FileShelf<R> {
     ghost names = { names_of };
 
-    ghost told = { λ shelf name. None };
+    ghost content = { λ shelf name. None };
 
     ghost reach = { reach_by };
 

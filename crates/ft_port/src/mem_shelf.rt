@@ -136,7 +136,7 @@ fn read_part(
 impl Shelf for MemShelf {
     ghost names = { λ s. names_of s.counts };
 
-    ghost told = { λ s. content_in s.files };
+    ghost content = { λ s. content_in s.files };
 
     ghost reach = { λ s. reach_by s.counts };
 

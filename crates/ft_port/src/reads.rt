@@ -26,7 +26,12 @@ impl Reads {
     }
 
     /// These and then a read from this place on, with what it answered and how it left the bytes it was to fill.
-    pub(crate) fn with(&self, _place: &u64, _given: &Result<usize, Failed>, _into: &[u8]) -> Reads
+    pub(crate) fn followed_by(
+        &self,
+        _place: &u64,
+        _given: &Result<usize, Failed>,
+        _into: &[u8],
+    ) -> Reads
         ensures { result.list ≡ read_of _place.now _given.now _into.now ∷ self.now.list }
     {
         Reads { of: PhantomData }

@@ -14,7 +14,7 @@ pub trait Shelf {
     ghost names: { Self → List (List ℕ) };
 
     /// What it holds under a name, where it tells that.
-    ghost told: { Self → List ℕ → Option (List ℕ) };
+    ghost content: { Self → List ℕ → Option (List ℕ) };
 
     /// The greatest `place + n` of a read of this name that gave n > 0 bytes; 0 before the first.
     ghost reach: { Self → List ℕ → ℕ };
@@ -29,11 +29,11 @@ pub trait Shelf {
     /// are given at the file's end or past it, and into an empty `into`. It takes no memory.
     fn read(&mut self, name: &str, place: u64, into: &mut [u8]) -> Result<usize, Failed>
         requires { Contains (names self.old) name.now }
-        ensures bytes { ReadsFrom (told self.old name.now) place result into.new }
+        ensures bytes { ReadsFrom (content self.old name.now) place result into.new }
         ensures reach { Reaches (reach self.old name.now) (reach self.new name.now) place result }
         ensures reads { reads self.new name.now ≡ read_of place result into.new ∷ reads self.old name.now }
         ensures cause { HasCause (faults self.old name.now) (faults self.new name.now) result }
         ensures others { OthersStay name.now (reach self.old) (reach self.new) (faults self.old) (faults self.new) (reads self.old) (reads self.new) }
         ensures names { names self.new ≡ names self.old }
-        ensures told { told self.new ≡ told self.old };
+        ensures content { content self.new ≡ content self.old };
 }

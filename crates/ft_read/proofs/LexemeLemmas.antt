@@ -2,7 +2,7 @@
 use Rattle.std.proofs.Common.{◌≡◌, subst, ◌≤◌, ◌+◌, ◌*◌, ◌-◌, ◌<◌, ℕ, zero, suc, List, [], ◌∷◌, take, fold, min, arith}
 use Rattle.std.specs.List.{All}
 use Rattle.ft_lex.specs.declared.token.Token.{Token}
-use Rattle.ft_lex.specs.Tokens.{LiesIn}
+use Rattle.ft_lex.specs.meaning.Tokens.{LiesIn}
 use Rattle.ft_base.specs.Digits.{decimal_value}
 
 -- the tokens after the first lie in the text too

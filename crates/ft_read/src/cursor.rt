@@ -1,6 +1,6 @@
 ghost use Rattle.std.specs.Prelude.{◌≡◌, ◌<◌, ◌+◌, ◌^◌, ◌∷◌, suc, List, ℕ, [], length, IfOk, IfSome, MatchOption};
 ghost use Rattle.std.specs.List.{All};
-ghost use Rattle.ft_lex.specs.Tokens.{LiesIn};
+ghost use Rattle.ft_lex.specs.meaning.Tokens.{LiesIn};
 ghost use Rattle.ft_read.specs.parsers.Cursor.{ReadsFirst, advanced, head, passes_of, read_first};
 ghost use Rattle.ft_read.specs.meaning.Limit.{no_pass, lexical_passes, opening};
 ghost use Rattle.ft_read.specs.meaning.Lexeme.{as_end, as_name, as_number, as_sign, as_word, lexemes_of};
@@ -27,7 +27,7 @@ pub struct Cursor<'t> {
 impl<'t> Model for Cursor<'t> {
     ghost use Rattle.std.specs.Prelude.{◌<◌, ◌+◌, ◌^◌, length};
     ghost use Rattle.std.specs.List.{All};
-    ghost use Rattle.ft_lex.specs.Tokens.{LiesIn};
+    ghost use Rattle.ft_lex.specs.meaning.Tokens.{LiesIn};
     ghost use Rattle.ft_read.specs.meaning.Lexeme.{lexemes_of};
     ghost use Rattle.ft_read.specs.parsers.Combinators.{ParserState, state};
 

@@ -8,8 +8,8 @@ use Rattle.ft_core.specs.declared.tables.Var.{Var}
 use Rattle.ft_core.specs.declared.tables.VarKind.{VarKind}
 use Rattle.ft_core.specs.declared.tables.VarKind.TheVariants as kind
 use Rattle.ft_core.specs.declared.tables.Side.TheVariants as side
-use Rattle.ft_core.specs.Kinds.{Kinds, after_first, controlled, count_of, of_kind, outputs, place_of, same_kind, side_kinds}
-use Rattle.ft_mean.specs.Reading.{IsVar}
+use Rattle.ft_core.specs.meaning.Kinds.{Kinds, after_first, controlled, count_of, of_kind, outputs, place_of, same_kind, side_kinds}
+use Rattle.ft_mean.specs.meaning.Reading.{IsVar}
 
 -- one more variable before a place
 pub next-place : (kinds : Kinds) (vars : List Var) (x : ℕ) (v : Var) → slice_get vars x ≡ Some v

@@ -3,13 +3,13 @@ use Rattle.std.proofs.Common.{◌∙◌, sym, ap, subst, ℕ, ◌<◌, length, O
 use Rattle.std.specs.Prelude.{IfSome, IfNone}
 use Rattle.ft_core.specs.declared.tables.Tables.{Tables}
 use Rattle.ft_core.specs.declared.tables.Side.TheVariants as side
-use Rattle.ft_mean.specs.Fits.{Fits, InputMap, Only, OutputMap}
-use Rattle.ft_mean.specs.Proper.{AllProper}
-use Rattle.ft_mean.specs.Reading.{Scans}
-use Rattle.ft_mean.specs.Refines.{FirstDiffers, Runs, SameAt}
-use Rattle.ft_replay.specs.Differing.{IsFirst}
-use Rattle.ft_replay.specs.IsReplaying.{Replays}
-use Rattle.ft_replay.specs.Laws.{Laws}
+use Rattle.ft_mean.specs.meaning.Fits.{Fits, InputMap, Only, OutputMap}
+use Rattle.ft_mean.specs.meaning.Proper.{AllProper}
+use Rattle.ft_mean.specs.meaning.Reading.{Scans}
+use Rattle.ft_mean.specs.meaning.Refines.{FirstDiffers, Runs, SameAt}
+use Rattle.ft_replay.specs.scans.Differing.{IsFirst}
+use Rattle.ft_replay.specs.scans.IsReplaying.{Replays}
+use Rattle.ft_replay.specs.laws.Laws.{Laws}
 use Rattle.ft_replay.proofs.FirstLemmas.{one-run}
 
 -- what is one of a kind that has only one is the only one

@@ -5,14 +5,14 @@ use Rattle.std.proofs.lemmas.Bool.{cases_lt}
 use Rattle.std.proofs.lemmas.List.{get_or_push, get_or_append_left}
 use Rattle.ft_core.specs.declared.tables.Tables.{Tables}
 use Rattle.ft_core.specs.declared.tables.Side.TheVariants as side
-use Rattle.ft_core.specs.Kinds.{monitored}
-use Rattle.ft_mean.specs.Allowed.{nat_at}
-use Rattle.ft_mean.specs.Fits.{Fits, OutputMap}
-use Rattle.ft_mean.specs.Laws.{AllowedByScan}
-use Rattle.ft_mean.specs.Reading.{Scans, reading_of}
-use Rattle.ft_mean.specs.Refines.{FirstDiffers, Runs, SameAt}
+use Rattle.ft_core.specs.meaning.Kinds.{monitored}
+use Rattle.ft_mean.specs.meaning.Allowed.{nat_at}
+use Rattle.ft_mean.specs.meaning.Fits.{Fits, OutputMap}
+use Rattle.ft_mean.specs.laws.Laws.{AllowedByScan}
+use Rattle.ft_mean.specs.meaning.Reading.{Scans, reading_of}
+use Rattle.ft_mean.specs.meaning.Refines.{FirstDiffers, Runs, SameAt}
 use Rattle.ft_scan.specs.meaning.Allowing.{nat_after}
-use Rattle.ft_replay.specs.Laws.{AllowedAfterLast, OneFirstDifference}
+use Rattle.ft_replay.specs.laws.Laws.{AllowedAfterLast, OneFirstDifference}
 
 -- a list has one trace of the requirement and one list of controlled values
 pub one-run : (S : Tables) (h r i s c q j t d : Scans) → Runs S h r i s c → Runs S h q j t d → (q ≡ r) × (d ≡ c)

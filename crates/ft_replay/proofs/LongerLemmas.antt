@@ -8,16 +8,16 @@ use Rattle.ft_core.specs.declared.tables.Tables.{Tables}
 use Rattle.ft_core.specs.declared.tables.Section.{Section}
 use Rattle.ft_core.specs.declared.tables.Side.TheVariants as side
 use Rattle.ft_core.specs.declared.tables.Section.TheVariants as section
-use Rattle.ft_core.specs.Kinds.{Kinds, controlled, is_of, monitored, outputs, place_of, side_kinds}
-use Rattle.ft_mean.specs.Allowed.{nat_at}
-use Rattle.ft_mean.specs.Fits.{InputMap, Maps}
-use Rattle.ft_mean.specs.Laws.{GoesByScan}
-use Rattle.ft_mean.specs.Reading.{Scans, init_of, reading_of}
-use Rattle.ft_mean.specs.Refines.{SameAt}
+use Rattle.ft_core.specs.meaning.Kinds.{Kinds, controlled, is_of, monitored, outputs, place_of, side_kinds}
+use Rattle.ft_mean.specs.meaning.Allowed.{nat_at}
+use Rattle.ft_mean.specs.meaning.Fits.{InputMap, Maps}
+use Rattle.ft_mean.specs.laws.Laws.{GoesByScan}
+use Rattle.ft_mean.specs.meaning.Reading.{Scans, init_of, reading_of}
+use Rattle.ft_mean.specs.meaning.Refines.{SameAt}
 use Rattle.ft_scan.specs.meaning.Allowing.{nat_after}
-use Rattle.ft_replay.specs.Differing.{DiffersAt, IsFirst, first_with}
-use Rattle.ft_replay.specs.Laws.{Laws}
-use Rattle.ft_replay.specs.Outputs.{AreOutputs}
+use Rattle.ft_replay.specs.scans.Differing.{DiffersAt, IsFirst, first_with}
+use Rattle.ft_replay.specs.laws.Laws.{Laws}
+use Rattle.ft_replay.specs.scans.Outputs.{AreOutputs}
 use Rattle.ft_replay.proofs.FirstLemmas.{allowed-after, nat-at-end}
 
 -- an image goes on scan by scan

@@ -9,13 +9,13 @@ use Rattle.ft_core.specs.declared.tables.Var.{Var}
 use Rattle.ft_core.specs.declared.tables.VarKind.TheVariants as kind
 use Rattle.ft_core.specs.declared.tables.Side.{Side}
 use Rattle.ft_core.specs.declared.tables.Side.TheVariants as side
-use Rattle.ft_core.specs.Kinds.{controlled, count_of, outputs, place_of, side_kinds}
-use Rattle.ft_mean.specs.Reading.{IsVar, reading_of}
-use Rattle.ft_mean.specs.Refines.{SameAt}
-use Rattle.ft_replay.specs.Differing.{DiffersAt, IsAlike, IsDifferent}
-use Rattle.ft_replay.specs.Laws.{Laws}
-use Rattle.ft_replay.specs.Outputs.{AreOutputs}
-use Rattle.ft_replay.specs.Rows.{HasPlaces}
+use Rattle.ft_core.specs.meaning.Kinds.{controlled, count_of, outputs, place_of, side_kinds}
+use Rattle.ft_mean.specs.meaning.Reading.{IsVar, reading_of}
+use Rattle.ft_mean.specs.meaning.Refines.{SameAt}
+use Rattle.ft_replay.specs.scans.Differing.{DiffersAt, IsAlike, IsDifferent}
+use Rattle.ft_replay.specs.laws.Laws.{Laws}
+use Rattle.ft_replay.specs.scans.Outputs.{AreOutputs}
+use Rattle.ft_replay.specs.scans.Rows.{HasPlaces}
 use Rattle.ft_replay.proofs.CountLemmas.{controlled-of-requirement, counted, goes-with, output-of-design, own-place, passed}
 
 -- the place in a row of the next variable of a side

@@ -6,17 +6,17 @@ use Rattle.std.proofs.lemmas.List.{length_push}
 use Rattle.ft_core.specs.declared.tables.Tables.{Tables}
 use Rattle.ft_core.specs.declared.tables.Side.{Side}
 use Rattle.ft_core.specs.declared.tables.Side.TheVariants as side
-use Rattle.ft_core.specs.Kinds.{outputs, side_kinds, count_of}
+use Rattle.ft_core.specs.meaning.Kinds.{outputs, side_kinds, count_of}
 use Rattle.ft_base.specs.Interval.{IsWithin}
-use Rattle.ft_mean.specs.Fits.{Fits}
-use Rattle.ft_mean.specs.Reading.{IsListOf, Scans, reading_of}
+use Rattle.ft_mean.specs.meaning.Fits.{Fits}
+use Rattle.ft_mean.specs.meaning.Reading.{IsListOf, Scans, reading_of}
 use Rattle.ft_scan.specs.meaning.Allowing.{nat_after}
 use Rattle.ft_scan.specs.meaning.Scanning.{Scanning}
-use Rattle.ft_replay.specs.Differing.{IsFirst, first_with}
-use Rattle.ft_replay.specs.IsReplaying.{Replays}
-use Rattle.ft_replay.specs.Laws.{Laws}
-use Rattle.ft_replay.specs.Outputs.{AreOutputs}
-use Rattle.ft_replay.specs.BothRan.{BothRan, Ran}
+use Rattle.ft_replay.specs.scans.Differing.{IsFirst, first_with}
+use Rattle.ft_replay.specs.scans.IsReplaying.{Replays}
+use Rattle.ft_replay.specs.laws.Laws.{Laws}
+use Rattle.ft_replay.specs.scans.Outputs.{AreOutputs}
+use Rattle.ft_replay.specs.scans.BothRan.{BothRan, Ran}
 use Rattle.ft_replay.proofs.CountLemmas.{output-of-design}
 use Rattle.ft_replay.proofs.LongerLemmas.{clauses-more, first-more, in-map-more, last-tells, out-map-more, outputs-more}
 

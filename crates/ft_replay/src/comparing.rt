@@ -1,10 +1,10 @@
 //! Whether the two sides agree at a scan.
 ghost use Rattle.std.specs.Prelude.{◌≡◌, ◌∷◌, [], length, MatchBool};
 ghost use Rattle.ft_core.specs.declared.tables.Side.TheVariants.{Req};
-ghost use Rattle.ft_core.specs.Kinds.{controlled, count_of, side_kinds};
-ghost use Rattle.ft_mean.specs.Refines.{SameAt};
-ghost use Rattle.ft_replay.specs.Differing.{DiffersAt, IsAlike, IsDifferent};
-ghost use Rattle.ft_replay.specs.Rows.{HasPlaces};
+ghost use Rattle.ft_core.specs.meaning.Kinds.{controlled, count_of, side_kinds};
+ghost use Rattle.ft_mean.specs.meaning.Refines.{SameAt};
+ghost use Rattle.ft_replay.specs.scans.Differing.{DiffersAt, IsAlike, IsDifferent};
+ghost use Rattle.ft_replay.specs.scans.Rows.{HasPlaces};
 
 use crate::law::laws;
 use crate::rows::next_place;

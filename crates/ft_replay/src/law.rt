@@ -1,4 +1,4 @@
-ghost use Rattle.ft_replay.specs.Laws.{AllowedAfterLast, Laws, OneFirstDifference};
+ghost use Rattle.ft_replay.specs.laws.Laws.{AllowedAfterLast, Laws, OneFirstDifference};
 
 use ft_mean::{allowed_by_scan, maps_by_scan, one_image, one_trace, outputs_alone, row_laws};
 

@@ -1,14 +1,14 @@
 ghost use Rattle.std.specs.Prelude.{ℕ, ◌≡◌, ◌<◌, ◌++◌, ◌∷◌, [], IfOk, IfSome, IfNone, IsTrue, length};
 ghost use Rattle.std.specs.List.{last_or};
 ghost use Rattle.ft_core.specs.declared.tables.Side.TheVariants as side;
-ghost use Rattle.ft_core.specs.Kinds.{monitored};
-ghost use Rattle.ft_mean.specs.Proper.{AllProper};
-ghost use Rattle.ft_mean.specs.Reading.{IsListOf};
-ghost use Rattle.ft_mean.specs.Refines.{FirstDiffers};
+ghost use Rattle.ft_core.specs.meaning.Kinds.{monitored};
+ghost use Rattle.ft_mean.specs.meaning.Proper.{AllProper};
+ghost use Rattle.ft_mean.specs.meaning.Reading.{IsListOf};
+ghost use Rattle.ft_mean.specs.meaning.Refines.{FirstDiffers};
 ghost use Rattle.ft_scan.specs.meaning.Allowing.{nat_after};
-ghost use Rattle.ft_replay.specs.BothRan.{BothRan};
-ghost use Rattle.ft_replay.specs.Differing.{first_with};
-ghost use Rattle.ft_replay.specs.Rows.{HasRooms};
+ghost use Rattle.ft_replay.specs.scans.BothRan.{BothRan};
+ghost use Rattle.ft_replay.specs.scans.Differing.{first_with};
+ghost use Rattle.ft_replay.specs.scans.Rows.{HasRooms};
 
 use crate::comparing::are_alike;
 use crate::law::laws;
@@ -32,7 +32,7 @@ pub struct Replayer<'t> {
 }
 
 impl<'t> Model for Replayer<'t> {
-    ghost use Rattle.ft_replay.specs.Replaying.{Replaying};
+    ghost use Rattle.ft_replay.specs.meaning.Replaying.{Replaying};
     ghost use Rattle.std.specs.Coded.{codes};
     ghost use Rattle.ft_core.specs.contracts.tables.Tables as checked_set;
 
@@ -40,7 +40,7 @@ impl<'t> Model for Replayer<'t> {
 
     ghost coded = { Prim.hlevel (codes, checked_set.the_row.coded) };
 
-    ghost use Rattle.ft_replay.specs.IsReplaying.{replaying, IsReplaying};
+    ghost use Rattle.ft_replay.specs.scans.IsReplaying.{replaying, IsReplaying};
 
     ghost view = { replaying };
 

@@ -1,8 +1,8 @@
 ghost use Rattle.std.specs.Prelude.{ℕ, ◌≡◌, [], IfOk};
-ghost use Rattle.ft_mean.specs.Allowed.{Allowed};
-ghost use Rattle.ft_mean.specs.Proper.{AllProper};
-ghost use Rattle.ft_mean.specs.Refines.{FirstDiffers};
-ghost use Rattle.ft_replay.specs.Replayed.{IfAgree, IfDiffer};
+ghost use Rattle.ft_mean.specs.meaning.Allowed.{Allowed};
+ghost use Rattle.ft_mean.specs.meaning.Proper.{AllProper};
+ghost use Rattle.ft_mean.specs.meaning.Refines.{FirstDiffers};
+ghost use Rattle.ft_replay.specs.meaning.Replayed.{IfAgree, IfDiffer};
 
 use crate::law::laws;
 use crate::replayer::Replayer;

@@ -1,7 +1,7 @@
 //! The rows of values of one scan.
 ghost use Rattle.std.specs.Prelude.{◌≡◌, ◌+◌, ◌<◌, length, IfOk, if◌then◌else◌};
-ghost use Rattle.ft_core.specs.Kinds.{count_of, side_kinds};
-ghost use Rattle.ft_replay.specs.Rows.{HasRooms, class_of};
+ghost use Rattle.ft_core.specs.meaning.Kinds.{count_of, side_kinds};
+ghost use Rattle.ft_replay.specs.scans.Rows.{HasRooms, class_of};
 
 use ft_base::NoMemory;
 use ft_core::{Side, Tables, Var, VarKind};

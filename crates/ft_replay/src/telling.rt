@@ -1,9 +1,9 @@
 //! The outputs of a scan of the design.
 ghost use Rattle.std.specs.Prelude.{◌≡◌, ◌∷◌, [], length, MatchBool, pos, slice_index_or, slice_set};
 ghost use Rattle.ft_core.specs.declared.tables.Side.TheVariants.{Sof};
-ghost use Rattle.ft_core.specs.Kinds.{count_of, outputs, side_kinds};
-ghost use Rattle.ft_replay.specs.Rows.{HasPlaces};
-ghost use Rattle.ft_replay.specs.Outputs.{AreOutputs};
+ghost use Rattle.ft_core.specs.meaning.Kinds.{count_of, outputs, side_kinds};
+ghost use Rattle.ft_replay.specs.scans.Rows.{HasPlaces};
+ghost use Rattle.ft_replay.specs.scans.Outputs.{AreOutputs};
 
 use crate::law::laws;
 use crate::rows::next_place;

@@ -6,12 +6,12 @@ use Rattle.ft_core.specs.declared.tables.Tables.{Tables}
 use Rattle.ft_core.specs.declared.tables.Side.{Side}
 use Rattle.ft_core.specs.declared.tables.Memory.{Memory}
 use Rattle.ft_core.specs.declared.tables.Grid.TheVariants.{Vector}
-use Rattle.ft_core.specs.Kinds.{defined_kinds, section_of}
-use Rattle.ft_core.specs.Sound.{side_of, is_side, is_memory_of}
-use Rattle.ft_mean.specs.Memory.{look}
-use Rattle.ft_mean.specs.Proper.{AllProper}
-use Rattle.ft_mean.specs.Reading.{Reading}
-use Rattle.ft_mean.specs.Value.{View}
+use Rattle.ft_core.specs.meaning.Kinds.{defined_kinds, section_of}
+use Rattle.ft_core.specs.checked.Sound.{side_of, is_side, is_memory_of}
+use Rattle.ft_mean.specs.meaning.Memory.{look}
+use Rattle.ft_mean.specs.meaning.Proper.{AllProper}
+use Rattle.ft_mean.specs.meaning.Reading.{Reading}
+use Rattle.ft_mean.specs.meaning.Value.{View}
 use Rattle.ft_scan.specs.declared.plan.Step.{Step}
 use Rattle.ft_scan.specs.declared.plan.Step.TheVariants as step
 use Rattle.ft_scan.specs.declared.frame.Frame.{Frame}

@@ -8,11 +8,11 @@ use Rattle.std.proofs.lemmas.List.Folds.{list_any_more}
 use Rattle.ft_core.specs.declared.tables.Tables.{Tables}
 use Rattle.ft_core.specs.declared.tables.Var.{Var}
 use Rattle.ft_core.specs.declared.tables.Section.{Section}
-use Rattle.ft_core.specs.Grids.{is_for}
-use Rattle.ft_core.specs.Kinds.{Kinds, count_of, defined_kinds, is_of, place_of}
-use Rattle.ft_mean.specs.Cells.{defined}
-use Rattle.ft_mean.specs.Reading.{IsVar}
-use Rattle.ft_mean.specs.Value.{View}
+use Rattle.ft_core.specs.meaning.Grids.{is_for}
+use Rattle.ft_core.specs.meaning.Kinds.{Kinds, count_of, defined_kinds, is_of, place_of}
+use Rattle.ft_mean.specs.meaning.Cells.{defined}
+use Rattle.ft_mean.specs.meaning.Reading.{IsVar}
+use Rattle.ft_mean.specs.meaning.Value.{View}
 use Rattle.ft_scan.specs.steps.Mapping.{IsFilled}
 use Rattle.ft_scan.specs.steps.Rows.{AreValues, row_value}
 use Rattle.ft_scan.proofs.FrameLemmas.{of_kinds}

@@ -13,9 +13,9 @@ use Rattle.ft_core.specs.declared.tables.Grid.TheVariants.{Normal, Inverted, Vec
 use Rattle.ft_core.specs.declared.term.Term.{Term}
 use Rattle.ft_core.specs.declared.term.Cond.{Cond}
 use Rattle.ft_core.specs.declared.tables.Grid.{Grid}
-use Rattle.ft_core.specs.Grids.{Cell, cells_for, row_cells, defines}
-use Rattle.ft_mean.specs.Value.{View, value, truth}
-use Rattle.ft_mean.specs.Cells.{cell_holds, holding}
+use Rattle.ft_core.specs.meaning.Grids.{Cell, cells_for, row_cells, defines}
+use Rattle.ft_mean.specs.meaning.Value.{View, value, truth}
+use Rattle.ft_mean.specs.meaning.Cells.{cell_holds, holding}
 use Rattle.ft_scan.proofs.Ground.{mapped}
 use Rattle.ft_scan.specs.steps.Found.{IsFirstTrue, IsFound, IsInRow, IsTrueAt}
 

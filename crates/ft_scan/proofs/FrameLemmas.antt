@@ -14,18 +14,18 @@ use Rattle.ft_core.specs.declared.tables.Grid.{Grid}
 use Rattle.ft_core.specs.declared.tables.Grid.TheVariants.{Vector}
 use Rattle.ft_core.specs.declared.term.Cond.{Cond}
 use Rattle.ft_core.specs.declared.term.Term.{Term}
-use Rattle.ft_core.specs.Grids.{cells_for, defines, is_for, is_section}
-use Rattle.ft_core.specs.Kinds.{Kinds, is_of, section_of}
-use Rattle.ft_core.specs.Size.{is_sized, is_sized_term, is_sized_grid, is_sized_memory}
-use Rattle.ft_mean.specs.Cells.{defined}
-use Rattle.ft_mean.specs.Value.{View, value}
+use Rattle.ft_core.specs.meaning.Grids.{cells_for, defines, is_for, is_section}
+use Rattle.ft_core.specs.meaning.Kinds.{Kinds, is_of, section_of}
+use Rattle.ft_core.specs.checked.Size.{is_sized, is_sized_term, is_sized_grid, is_sized_memory}
+use Rattle.ft_mean.specs.meaning.Cells.{defined}
+use Rattle.ft_mean.specs.meaning.Value.{View, value}
 use Rattle.ft_scan.specs.declared.frame.Frame.{Frame}
 use Rattle.ft_scan.specs.declared.frame.Running.{Running}
 use Rattle.ft_scan.specs.declared.frame.Running.TheVariants.{Timer, Band}
 use Rattle.ft_scan.specs.steps.Found.{IsFound, IsOpenColumn, IsEntry, IsWhole}
 use Rattle.ft_scan.specs.steps.Frame.{view_of, IsFrameOf, IsRunOf, Advances, HasColumn, FindsColumn, HasCell, HasEntry, FindsEntry}
 use Rattle.ft_scan.specs.steps.Plan.{IsVector}
-use Rattle.ft_mean.specs.Safe.{KeepsSizes, IsSafe, IsSafeBy, IsSafeGrid, IsSafeMemory}
+use Rattle.ft_mean.specs.judge.Safe.{KeepsSizes, IsSafe, IsSafeBy, IsSafeGrid, IsSafeMemory}
 use Rattle.ft_scan.specs.steps.Stepping.{sample_of, CanHear, Hears}
 use Rattle.ft_scan.proofs.RowLemmas.{value_size, no_age}
 use Rattle.ft_scan.proofs.TableLemmas.{all_at, for_it, grid_safe, found_defined, found_none}

@@ -10,9 +10,9 @@ use Rattle.ft_core.specs.declared.tables.Section.{Section}
 use Rattle.ft_core.specs.declared.tables.Section.TheVariants as section
 use Rattle.ft_core.specs.declared.tables.Side.{Side}
 use Rattle.ft_core.specs.declared.tables.Side.TheVariants as side
-use Rattle.ft_core.specs.Grids.{defines, is_for, is_section}
-use Rattle.ft_core.specs.Kinds.{section_of}
-use Rattle.ft_core.specs.Sound.{is_side}
+use Rattle.ft_core.specs.meaning.Grids.{defines, is_for, is_section}
+use Rattle.ft_core.specs.meaning.Kinds.{section_of}
+use Rattle.ft_core.specs.checked.Sound.{is_side}
 
 -- what stands in the image of an element stands in the images joined
 pub in_all : {A B : Type 0} (f : A → List B) (xs : List A) (k : ℕ) (a : A) (b : B) → slice_get xs k ≡ Some a → Contains (f a) b → Contains (flat_map f xs) b

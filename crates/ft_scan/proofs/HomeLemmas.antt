@@ -12,9 +12,9 @@ use Rattle.ft_core.specs.declared.tables.Grid.{Grid}
 use Rattle.ft_core.specs.declared.tables.Grid.TheVariants.{Normal, Inverted, Vector}
 use Rattle.ft_core.specs.declared.term.Cond.{Cond}
 use Rattle.ft_core.specs.declared.term.Term.{Term}
-use Rattle.ft_core.specs.Kinds.{defined_kinds, is_of}
-use Rattle.ft_core.specs.Grids.{defines, is_for, is_section}
-use Rattle.ft_core.specs.Places.{of-set}
+use Rattle.ft_core.specs.meaning.Kinds.{defined_kinds, is_of}
+use Rattle.ft_core.specs.meaning.Grids.{defines, is_for, is_section}
+use Rattle.ft_core.specs.laws.Places.{of-set}
 use Rattle.ft_scan.proofs.Ground.{same_section}
 use Rattle.ft_scan.specs.steps.Homes.{IsHome, AreHomes, IsPart, PutsHomes, PutsRowHomes}
 use Rattle.ft_scan.specs.declared.homes.Home.{Home}

@@ -8,9 +8,9 @@ use Rattle.ft_core.specs.declared.tables.Tables.{Tables}
 use Rattle.ft_core.specs.declared.tables.Table.{Table}
 use Rattle.ft_core.specs.declared.tables.Section.{Section}
 use Rattle.ft_core.specs.declared.term.Term.{Term}
-use Rattle.ft_core.specs.Grids.{cells_for, defines, is_section, is_for, is_shaped}
-use Rattle.ft_mean.specs.Cells.{defined}
-use Rattle.ft_mean.specs.Value.{View, value}
+use Rattle.ft_core.specs.meaning.Grids.{cells_for, defines, is_section, is_for, is_shaped}
+use Rattle.ft_mean.specs.meaning.Cells.{defined}
+use Rattle.ft_mean.specs.meaning.Value.{View, value}
 use Rattle.ft_scan.specs.steps.Found.{IsFound, IsTrueAt, IsOpenColumn, IsEntry}
 use Rattle.ft_scan.specs.steps.Mapping.{CanMap, IsTableOf, HasTargets, IsFilled}
 use Rattle.ft_scan.proofs.FillLemmas.{nothing}

@@ -9,17 +9,17 @@ use Rattle.ft_core.specs.declared.tables.Side.{Side}
 use Rattle.ft_core.specs.declared.tables.Memory.TheVariants.{Held, Hyst}
 use Rattle.ft_core.specs.declared.term.Term.{Term}
 use Rattle.ft_core.specs.declared.term.Cond.{Cond}
-use Rattle.ft_core.specs.Kinds.{defined_kinds, section_of}
-use Rattle.ft_core.specs.Grids.{cells_for}
-use Rattle.ft_core.specs.Reads.{cell_reads}
-use Rattle.ft_mean.specs.Cells.{defined, Follows}
-use Rattle.ft_mean.specs.Memory.{look, memory_at, at_scan, remembered}
-use Rattle.ft_mean.specs.Past.{held, hyst}
-use Rattle.ft_mean.specs.Proper.{AllProper}
-use Rattle.ft_mean.specs.Reading.{Reading, IsVar, begun, since}
-use Rattle.ft_mean.specs.Value.{View, truth, value}
-use Rattle.ft_mean.specs.EvaluationLaws.{AllSame}
-use Rattle.ft_mean.specs.TableLaws.{TableOf, OneValue}
+use Rattle.ft_core.specs.meaning.Kinds.{defined_kinds, section_of}
+use Rattle.ft_core.specs.meaning.Grids.{cells_for}
+use Rattle.ft_core.specs.meaning.Reads.{cell_reads}
+use Rattle.ft_mean.specs.meaning.Cells.{defined, Follows}
+use Rattle.ft_mean.specs.meaning.Memory.{look, memory_at, at_scan, remembered}
+use Rattle.ft_mean.specs.meaning.Past.{held, hyst}
+use Rattle.ft_mean.specs.meaning.Proper.{AllProper}
+use Rattle.ft_mean.specs.meaning.Reading.{Reading, IsVar, begun, since}
+use Rattle.ft_mean.specs.meaning.Value.{View, truth, value}
+use Rattle.ft_mean.specs.laws.EvaluationLaws.{AllSame}
+use Rattle.ft_mean.specs.laws.TableLaws.{TableOf, OneValue}
 use Rattle.ft_memo.specs.Timer.{held_after, truth_at, ago}
 use Rattle.ft_memo.specs.Band.{hyst_after, number_at}
 use Rattle.ft_scan.specs.laws.Laws.{Laws}

@@ -6,15 +6,15 @@ use Rattle.std.proofs.lemmas.Option.{same_Some}
 use Rattle.ft_core.specs.declared.tables.Tables.{Tables}
 use Rattle.ft_core.specs.declared.tables.Table.{Table}
 use Rattle.ft_core.specs.declared.tables.Side.{Side}
-use Rattle.ft_core.specs.Grids.{cells_for, is_for}
-use Rattle.ft_core.specs.Kinds.{given_kinds, side_kinds, section_of}
+use Rattle.ft_core.specs.meaning.Grids.{cells_for, is_for}
+use Rattle.ft_core.specs.meaning.Kinds.{given_kinds, side_kinds, section_of}
 use Rattle.ft_core.specs.declared.term.Cond.{Cond}
-use Rattle.ft_core.specs.Reads.{Read, at_now, at_before, of_memory, of_age, cell_reads, cond_reads}
-use Rattle.ft_mean.specs.Memory.{at_scan, memory_at, look}
-use Rattle.ft_mean.specs.Reading.{Reading}
-use Rattle.ft_mean.specs.Value.{truth}
-use Rattle.ft_mean.specs.EvaluationLaws.{Same, AllSame}
-use Rattle.ft_mean.specs.TableLaws.{TableOf}
+use Rattle.ft_core.specs.meaning.Reads.{Read, at_now, at_before, of_memory, of_age, cell_reads, cond_reads}
+use Rattle.ft_mean.specs.meaning.Memory.{at_scan, memory_at, look}
+use Rattle.ft_mean.specs.meaning.Reading.{Reading}
+use Rattle.ft_mean.specs.meaning.Value.{truth}
+use Rattle.ft_mean.specs.laws.EvaluationLaws.{Same, AllSame}
+use Rattle.ft_mean.specs.laws.TableLaws.{TableOf}
 use Rattle.ft_scan.proofs.Ground.{in_all, is_for_from}
 use Rattle.ft_scan.specs.declared.plan.Step.{Step}
 use Rattle.ft_scan.specs.declared.plan.Step.TheVariants as step

@@ -11,14 +11,14 @@ use Rattle.ft_core.specs.declared.tables.Side.{Side}
 use Rattle.ft_core.specs.declared.tables.Memory.{Memory}
 use Rattle.ft_core.specs.declared.tables.Memory.TheVariants.{Held, Hyst}
 use Rattle.ft_core.specs.declared.tables.Grid.TheVariants.{Vector}
-use Rattle.ft_core.specs.Kinds.{defined_kinds, section_of}
-use Rattle.ft_core.specs.Reads.{memory_reads, cond_reads}
-use Rattle.ft_core.specs.Places.{set-here, set-there}
-use Rattle.ft_mean.specs.Memory.{at_scan, memory_at, look}
-use Rattle.ft_mean.specs.Proper.{AllProper}
-use Rattle.ft_mean.specs.Reading.{Reading, begun}
-use Rattle.ft_mean.specs.Value.{View, truth, value}
-use Rattle.ft_mean.specs.EvaluationLaws.{AllSame}
+use Rattle.ft_core.specs.meaning.Kinds.{defined_kinds, section_of}
+use Rattle.ft_core.specs.meaning.Reads.{memory_reads, cond_reads}
+use Rattle.ft_core.specs.laws.Places.{set-here, set-there}
+use Rattle.ft_mean.specs.meaning.Memory.{at_scan, memory_at, look}
+use Rattle.ft_mean.specs.meaning.Proper.{AllProper}
+use Rattle.ft_mean.specs.meaning.Reading.{Reading, begun}
+use Rattle.ft_mean.specs.meaning.Value.{View, truth, value}
+use Rattle.ft_mean.specs.laws.EvaluationLaws.{AllSame}
 use Rattle.ft_memo.specs.Timer.{held_after}
 use Rattle.ft_memo.specs.Band.{hyst_after}
 use Rattle.ft_scan.specs.declared.plan.Step.{Step}

@@ -6,9 +6,9 @@ use Rattle.std.proofs.lemmas.List.{length_push, take_all}
 use Rattle.std.proofs.lemmas.Option.{slice_get_within}
 use Rattle.ft_core.specs.declared.tables.Tables.{Tables}
 use Rattle.ft_core.specs.declared.tables.Var.{Var}
-use Rattle.ft_core.specs.Kinds.{Kinds, count_of, place_of, is_of}
-use Rattle.ft_core.specs.Places.{on-left, at-end, one-at}
-use Rattle.ft_mean.specs.Reading.{IsVar}
+use Rattle.ft_core.specs.meaning.Kinds.{Kinds, count_of, place_of, is_of}
+use Rattle.ft_core.specs.laws.Places.{on-left, at-end, one-at}
+use Rattle.ft_mean.specs.meaning.Reading.{IsVar}
 use Rattle.ft_scan.specs.steps.Put.{ArePlacesIn, AreOnce}
 use Rattle.ft_scan.specs.steps.Stands.{ArePlaces}
 use Rattle.ft_scan.proofs.PlaceLemmas.{next_place}

@@ -4,8 +4,8 @@ use Rattle.std.proofs.lemmas.Bool.{cases_lt}
 use Rattle.std.proofs.lemmas.List.{length_push, get_or_push, get_or_append_left}
 use Rattle.ft_base.specs.Interval.{IsWithin}
 use Rattle.ft_core.specs.declared.tables.Tables.{Tables}
-use Rattle.ft_core.specs.Kinds.{Kinds, place_of, is_of}
-use Rattle.ft_mean.specs.Reading.{Reading, Scans, IsListOf, reading_of, init_of, before}
+use Rattle.ft_core.specs.meaning.Kinds.{Kinds, place_of, is_of}
+use Rattle.ft_mean.specs.meaning.Reading.{Reading, Scans, IsListOf, reading_of, init_of, before}
 use Rattle.ft_scan.specs.laws.Laws.{Laws}
 
 -- the last scan tells what it tells alone

@@ -6,17 +6,17 @@ use Rattle.ft_base.specs.Interval.{IsWithin}
 use Rattle.ft_core.specs.declared.tables.Tables.{Tables}
 use Rattle.ft_core.specs.declared.tables.Var.{Var}
 use Rattle.ft_core.specs.declared.tables.Section.{Section}
-use Rattle.ft_core.specs.Kinds.{Kinds, count_of, defined_kinds}
-use Rattle.ft_core.specs.Reads.{Read, at_now, at_before, of_memory, of_age, cell_reads}
-use Rattle.ft_mean.specs.Cells.{Follows, defined}
-use Rattle.ft_mean.specs.Fits.{Maps}
-use Rattle.ft_mean.specs.Memory.{look}
-use Rattle.ft_mean.specs.Proper.{AllProper}
-use Rattle.ft_mean.specs.Reading.{IsListOf, IsVar, reading_of}
-use Rattle.ft_mean.specs.Value.{View}
-use Rattle.ft_mean.specs.EvaluationLaws.{Same, AllSame}
-use Rattle.ft_mean.specs.TableLaws.{OneValue}
-use Rattle.ft_core.specs.Sound.{may_read, now_of}
+use Rattle.ft_core.specs.meaning.Kinds.{Kinds, count_of, defined_kinds}
+use Rattle.ft_core.specs.meaning.Reads.{Read, at_now, at_before, of_memory, of_age, cell_reads}
+use Rattle.ft_mean.specs.meaning.Cells.{Follows, defined}
+use Rattle.ft_mean.specs.meaning.Fits.{Maps}
+use Rattle.ft_mean.specs.meaning.Memory.{look}
+use Rattle.ft_mean.specs.meaning.Proper.{AllProper}
+use Rattle.ft_mean.specs.meaning.Reading.{IsListOf, IsVar, reading_of}
+use Rattle.ft_mean.specs.meaning.Value.{View}
+use Rattle.ft_mean.specs.laws.EvaluationLaws.{Same, AllSame}
+use Rattle.ft_mean.specs.laws.TableLaws.{OneValue}
+use Rattle.ft_core.specs.checked.Sound.{may_read, now_of}
 use Rattle.ft_scan.proofs.PlaceLemmas.{same_image}
 use Rattle.ft_scan.specs.steps.Rows.{row_view, HasValues, AreValues}
 use Rattle.ft_scan.specs.laws.Laws.{Laws}

@@ -10,10 +10,10 @@ use Rattle.ft_core.specs.declared.tables.Var.{Var}
 use Rattle.ft_core.specs.declared.tables.Side.{Side}
 use Rattle.ft_core.specs.declared.tables.Memory.{Memory}
 use Rattle.ft_core.specs.declared.tables.Memory.TheVariants.{Held, Hyst}
-use Rattle.ft_core.specs.Kinds.{given_kinds, side_kinds}
-use Rattle.ft_core.specs.Places.{on-left, at-end}
-use Rattle.ft_mean.specs.Fits.{Fits, side_reading}
-use Rattle.ft_mean.specs.Reading.{Reading}
+use Rattle.ft_core.specs.meaning.Kinds.{given_kinds, side_kinds}
+use Rattle.ft_core.specs.laws.Places.{on-left, at-end}
+use Rattle.ft_mean.specs.meaning.Fits.{Fits, side_reading}
+use Rattle.ft_mean.specs.meaning.Reading.{Reading}
 use Rattle.ft_scan.specs.declared.plan.Step.{Step}
 use Rattle.ft_scan.specs.declared.frame.Frame.{Frame}
 use Rattle.ft_scan.specs.declared.frame.Running.{Running}

@@ -9,9 +9,9 @@ use Rattle.ft_core.specs.declared.tables.VarKind.{VarKind}
 use Rattle.ft_core.specs.declared.tables.VarKind.TheVariants as kind
 use Rattle.ft_core.specs.declared.tables.Section.{Section}
 use Rattle.ft_core.specs.declared.tables.Section.TheVariants as section
-use Rattle.ft_core.specs.Kinds.{Kinds, after_first, place_of, same_kind, of_kind, defined_kinds, image_kinds, is_of}
+use Rattle.ft_core.specs.meaning.Kinds.{Kinds, after_first, place_of, same_kind, of_kind, defined_kinds, image_kinds, is_of}
 use Rattle.ft_core.specs.contracts.tables.VarKind.{the_type}
-use Rattle.ft_mean.specs.Reading.{init_of, reading_of}
+use Rattle.ft_mean.specs.meaning.Reading.{init_of, reading_of}
 use denote.Enum.Bare.{sameb}
 
 -- one more variable before a place

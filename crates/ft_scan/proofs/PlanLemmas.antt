@@ -5,11 +5,11 @@ use Rattle.std.proofs.lemmas.List.{length_push, length-set, length-replicate}
 use Rattle.std.proofs.lemmas.Option.{none-some, same_Some, slice_get_within}
 use Rattle.ft_core.specs.declared.tables.Tables.{Tables}
 use Rattle.ft_core.specs.declared.tables.Side.{Side}
-use Rattle.ft_core.specs.Kinds.{defined_kinds, section_of, is_of}
-use Rattle.ft_core.specs.Items.{IsScanOrder}
-use Rattle.ft_core.specs.Reads.{Read, at_now, at_before, of_memory, of_age}
-use Rattle.ft_core.specs.Sound.{is_memory_of}
-use Rattle.ft_core.specs.Places.{on-left, of-push, at-end, of-set, set-here, set-there, of-replicate, none-at}
+use Rattle.ft_core.specs.meaning.Kinds.{defined_kinds, section_of, is_of}
+use Rattle.ft_core.specs.meaning.Items.{IsScanOrder}
+use Rattle.ft_core.specs.meaning.Reads.{Read, at_now, at_before, of_memory, of_age}
+use Rattle.ft_core.specs.checked.Sound.{is_memory_of}
+use Rattle.ft_core.specs.laws.Places.{on-left, of-push, at-end, of-set, set-here, set-there, of-replicate, none-at}
 use Rattle.ft_scan.specs.declared.homes.Home.{Home}
 use Rattle.ft_scan.specs.declared.homes.Home.TheVariants.{Whole, Row}
 use Rattle.ft_scan.specs.declared.plan.Planned.{Planned}

@@ -14,11 +14,11 @@ use Rattle.ft_core.specs.declared.tables.Section.TheVariants as section
 use Rattle.ft_core.specs.declared.tables.Grid.TheVariants.{Vector}
 use Rattle.ft_core.specs.declared.term.Cond.{Cond}
 use Rattle.ft_core.specs.declared.term.Term.{Term}
-use Rattle.ft_core.specs.Kinds.{Kinds, given_kinds, defined_kinds, side_kinds, section_of, is_of}
-use Rattle.ft_core.specs.Grids.{cells_for, defines, is_section, is_for, is_shaped}
-use Rattle.ft_core.specs.Items.{item, item_read, IsScanOrder}
-use Rattle.ft_core.specs.Reads.{Read, at_now, at_before, of_memory, of_age, cond_reads, memory_reads, grid_reads, cell_reads}
-use Rattle.ft_core.specs.Sound.{side_of, is_side, is_memory_of, on_side, may_read, item_reads}
+use Rattle.ft_core.specs.meaning.Kinds.{Kinds, given_kinds, defined_kinds, side_kinds, section_of, is_of}
+use Rattle.ft_core.specs.meaning.Grids.{cells_for, defines, is_section, is_for, is_shaped}
+use Rattle.ft_core.specs.meaning.Items.{item, item_read, IsScanOrder}
+use Rattle.ft_core.specs.meaning.Reads.{Read, at_now, at_before, of_memory, of_age, cond_reads, memory_reads, grid_reads, cell_reads}
+use Rattle.ft_core.specs.checked.Sound.{side_of, is_side, is_memory_of, on_side, may_read, item_reads}
 use Rattle.ft_scan.proofs.Ground.{in_all, of_side, same_section, same_side, is_for_from}
 use Rattle.ft_scan.specs.steps.Plan.{IsKnown, AreKnown}
 use Rattle.ft_scan.specs.steps.Planning.{HasMade}

@@ -11,18 +11,18 @@ use Rattle.ft_core.specs.declared.tables.Var.{Var}
 use Rattle.ft_core.specs.declared.tables.Memory.{Memory}
 use Rattle.ft_core.specs.declared.tables.Memory.TheVariants.{Held, Hyst}
 use Rattle.ft_core.specs.declared.term.Cond.{Cond}
-use Rattle.ft_core.specs.Kinds.{Kinds, monitored, is_of}
-use Rattle.ft_core.specs.Reads.{Read, at_now, at_before, of_memory, of_age, cond_reads}
-use Rattle.ft_core.specs.Size.{var_size, age_size, is_sized}
-use Rattle.ft_core.specs.Sound.{AllRead, now_of, step_of}
-use Rattle.ft_mean.specs.Allowed.{nat_at}
-use Rattle.ft_mean.specs.Value.{View, truth}
-use Rattle.ft_mean.specs.Reading.{IsListOf, reading_of, init_of}
-use Rattle.ft_mean.specs.Memory.{look}
-use Rattle.ft_mean.specs.EvaluationLaws.{Same}
+use Rattle.ft_core.specs.meaning.Kinds.{Kinds, monitored, is_of}
+use Rattle.ft_core.specs.meaning.Reads.{Read, at_now, at_before, of_memory, of_age, cond_reads}
+use Rattle.ft_core.specs.checked.Size.{var_size, age_size, is_sized}
+use Rattle.ft_core.specs.checked.Sound.{AllRead, now_of, step_of}
+use Rattle.ft_mean.specs.meaning.Allowed.{nat_at}
+use Rattle.ft_mean.specs.meaning.Value.{View, truth}
+use Rattle.ft_mean.specs.meaning.Reading.{IsListOf, reading_of, init_of}
+use Rattle.ft_mean.specs.meaning.Memory.{look}
+use Rattle.ft_mean.specs.laws.EvaluationLaws.{Same}
 use Rattle.ft_scan.proofs.Ground.{from_one}
 use Rattle.ft_scan.specs.steps.Rows.{row_view}
-use Rattle.ft_mean.specs.Safe.{KeepsSizes, AreSafeConds}
+use Rattle.ft_mean.specs.judge.Safe.{KeepsSizes, AreSafeConds}
 use Rattle.ft_scan.specs.laws.Laws.{Laws}
 
 within_size : (range : ℤ × ℤ) (z : ℤ) → IsWithin range z → unsigned_abs z ≤ max 1 (max (unsigned_abs range.0) (unsigned_abs range.1))

@@ -7,12 +7,12 @@ use Rattle.ft_core.specs.declared.tables.Memory.{Memory}
 use Rattle.ft_core.specs.declared.tables.Memory.TheVariants.{Held, Hyst}
 use Rattle.ft_core.specs.declared.term.Cond.{Cond}
 use Rattle.ft_core.specs.declared.term.Term.{Term}
-use Rattle.ft_core.specs.Reads.{Read, cond_reads, term_reads}
-use Rattle.ft_mean.specs.Memory.{at_scan, memory_at, look}
-use Rattle.ft_mean.specs.Reading.{Reading, begun, scan_before}
-use Rattle.ft_mean.specs.Value.{truth, value}
-use Rattle.ft_mean.specs.EvaluationLaws.{Same}
-use Rattle.ft_core.specs.Sound.{on_side}
+use Rattle.ft_core.specs.meaning.Reads.{Read, cond_reads, term_reads}
+use Rattle.ft_mean.specs.meaning.Memory.{at_scan, memory_at, look}
+use Rattle.ft_mean.specs.meaning.Reading.{Reading, begun, scan_before}
+use Rattle.ft_mean.specs.meaning.Value.{truth, value}
+use Rattle.ft_mean.specs.laws.EvaluationLaws.{Same}
+use Rattle.ft_core.specs.checked.Sound.{on_side}
 use Rattle.ft_scan.specs.declared.frame.Frame.{Frame}
 use Rattle.ft_scan.specs.declared.frame.Running.{Running}
 use Rattle.ft_scan.specs.declared.frame.Running.TheVariants.{Timer, Band}

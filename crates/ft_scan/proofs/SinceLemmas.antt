@@ -5,9 +5,9 @@ use Rattle.std.specs.List.{list_any, list_all, range_with_len}
 use Rattle.std.proofs.lemmas.Bool.{cond-false}
 use Rattle.std.proofs.lemmas.List.Folds.{list_all-map}
 use Rattle.ft_core.specs.declared.tables.Tables.{Tables}
-use Rattle.ft_mean.specs.Past.{scans, held, hyst}
-use Rattle.ft_mean.specs.PastLaws.{next_bit}
-use Rattle.ft_mean.specs.Reading.{Reading, begins, begun, since, scan_before, before, init_of}
+use Rattle.ft_mean.specs.meaning.Past.{scans, held, hyst}
+use Rattle.ft_mean.specs.laws.PastLaws.{next_bit}
+use Rattle.ft_mean.specs.meaning.Reading.{Reading, begins, begun, since, scan_before, before, init_of}
 use Rattle.ft_memo.specs.Timer.{ago}
 use Rattle.ft_scan.specs.laws.Laws.{Laws}
 

@@ -7,12 +7,12 @@ use Rattle.std.proofs.lemmas.Option.{slice_get_within, same_Some}
 use Rattle.ft_base.specs.Interval.{IsWithin}
 use Rattle.ft_core.specs.declared.tables.Tables.{Tables}
 use Rattle.ft_core.specs.declared.tables.Var.{Var}
-use Rattle.ft_core.specs.Kinds.{given_kinds, side_kinds, defined_kinds, section_of, count_of, place_of}
-use Rattle.ft_core.specs.Reads.{at_now, of_memory}
-use Rattle.ft_core.specs.Sound.{is_memory_of}
-use Rattle.ft_mean.specs.Fits.{Fits, side_reading}
-use Rattle.ft_mean.specs.Proper.{AllProper}
-use Rattle.ft_mean.specs.Reading.{Reading, Scans, IsListOf, IsVar, reading_of, before}
+use Rattle.ft_core.specs.meaning.Kinds.{given_kinds, side_kinds, defined_kinds, section_of, count_of, place_of}
+use Rattle.ft_core.specs.meaning.Reads.{at_now, of_memory}
+use Rattle.ft_core.specs.checked.Sound.{is_memory_of}
+use Rattle.ft_mean.specs.meaning.Fits.{Fits, side_reading}
+use Rattle.ft_mean.specs.meaning.Proper.{AllProper}
+use Rattle.ft_mean.specs.meaning.Reading.{Reading, Scans, IsListOf, IsVar, reading_of, before}
 use Rattle.ft_scan.specs.declared.plan.Step.{Step}
 use Rattle.ft_scan.specs.declared.plan.Step.TheVariants as step
 use Rattle.ft_scan.specs.declared.frame.Frame.{Frame}

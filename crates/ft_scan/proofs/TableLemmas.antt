@@ -8,12 +8,12 @@ use Rattle.std.proofs.lemmas.Option.{none-some, same_Some}
 use Rattle.ft_core.specs.declared.tables.Tables.{Tables}
 use Rattle.ft_core.specs.declared.tables.Table.{Table}
 use Rattle.ft_core.specs.declared.tables.Section.{Section}
-use Rattle.ft_core.specs.Grids.{cells_for, is_for, is_shaped}
-use Rattle.ft_core.specs.Size.{is_sized_grid}
-use Rattle.ft_mean.specs.Value.{View, value}
-use Rattle.ft_mean.specs.Cells.{holding, cells_of, defined}
+use Rattle.ft_core.specs.meaning.Grids.{cells_for, is_for, is_shaped}
+use Rattle.ft_core.specs.checked.Size.{is_sized_grid}
+use Rattle.ft_mean.specs.meaning.Value.{View, value}
+use Rattle.ft_mean.specs.meaning.Cells.{holding, cells_of, defined}
 use Rattle.ft_scan.specs.steps.Found.{IsFound, IsTableFor}
-use Rattle.ft_mean.specs.Safe.{KeepsSizes, IsSafeGrid}
+use Rattle.ft_mean.specs.judge.Safe.{KeepsSizes, IsSafeGrid}
 use Rattle.ft_scan.specs.laws.Laws.{Laws}
 
 pub all_at : {A : Type 0} (test : A → Bool) (xs : List A) (k : ℕ) (x : A) → list_all test xs ≡ true → slice_get xs k ≡ Some x → test x ≡ true

@@ -12,10 +12,10 @@ use Rattle.ft_core.specs.declared.tables.Grid.{Grid}
 use Rattle.ft_core.specs.declared.tables.Grid.TheVariants.{Vector}
 use Rattle.ft_core.specs.declared.term.Cond.{Cond}
 use Rattle.ft_core.specs.declared.term.Term.{Term}
-use Rattle.ft_core.specs.Grids.{is_for, is_shaped}
-use Rattle.ft_core.specs.Kinds.{section_of}
-use Rattle.ft_core.specs.Places.{some-at}
-use Rattle.ft_mean.specs.Value.{View, truth}
+use Rattle.ft_core.specs.meaning.Grids.{is_for, is_shaped}
+use Rattle.ft_core.specs.meaning.Kinds.{section_of}
+use Rattle.ft_core.specs.laws.Places.{some-at}
+use Rattle.ft_mean.specs.meaning.Value.{View, truth}
 use Rattle.ft_scan.proofs.Ground.{is_for_from}
 use Rattle.ft_scan.specs.steps.Found.{IsFirstTrue, IsTrueAt, IsOpenColumn}
 use Rattle.ft_scan.specs.steps.Plan.{IsVector}

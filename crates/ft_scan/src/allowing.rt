@@ -1,11 +1,11 @@
 ghost use Rattle.std.specs.Prelude.{◌≡◌, ◌∷◌, [], IfSome};
 ghost use Rattle.std.specs.List.{list_all};
 ghost use Rattle.std.specs.Option.{option_map};
-ghost use Rattle.ft_core.specs.Kinds.{monitored};
-ghost use Rattle.ft_mean.specs.Allowed.{nat_at};
-ghost use Rattle.ft_mean.specs.Reading.{IsListOf, reading_of};
-ghost use Rattle.ft_mean.specs.Safe.{AreSafeConds};
-ghost use Rattle.ft_mean.specs.Value.{truth};
+ghost use Rattle.ft_core.specs.meaning.Kinds.{monitored};
+ghost use Rattle.ft_mean.specs.meaning.Allowed.{nat_at};
+ghost use Rattle.ft_mean.specs.meaning.Reading.{IsListOf, reading_of};
+ghost use Rattle.ft_mean.specs.judge.Safe.{AreSafeConds};
+ghost use Rattle.ft_mean.specs.meaning.Value.{truth};
 ghost use Rattle.ft_scan.specs.meaning.Allowing.{nat_after};
 
 use crate::law::laws;

@@ -2,9 +2,9 @@ ghost use Rattle.std.specs.Prelude.{◌≡◌, ℕ, [], slice_get, slice_index_o
 ghost use Rattle.std.specs.Option.{option_map};
 ghost use Rattle.ft_core.specs.declared.tables.Grid.TheVariants.{Normal, Inverted};
 ghost use Rattle.ft_core.specs.declared.term.Term.{Term};
-ghost use Rattle.ft_core.specs.Grids.{cells_for, defines};
-ghost use Rattle.ft_mean.specs.Safe.{IsSafeCond, IsSafeGrid, AreSafe, AreSafeConds, AreSafeCondRows, AreSafeRows};
-ghost use Rattle.ft_mean.specs.Value.{value};
+ghost use Rattle.ft_core.specs.meaning.Grids.{cells_for, defines};
+ghost use Rattle.ft_mean.specs.judge.Safe.{IsSafeCond, IsSafeGrid, AreSafe, AreSafeConds, AreSafeCondRows, AreSafeRows};
+ghost use Rattle.ft_mean.specs.meaning.Value.{value};
 ghost use Rattle.ft_scan.specs.steps.Found.{IsFirstTrue, IsTrueAt, IsEntry, IsFound, IsInHeadedRow, IsInRow, IsOpenColumn, IsWhole};
 
 use ft_base::List;

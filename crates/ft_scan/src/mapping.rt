@@ -1,11 +1,11 @@
 ghost use Rattle.std.specs.Prelude.{◌≡◌, ◌==◌, ◌∷◌, [], ℕ, IsTrue, length, slice_get, slice_set, Some, if◌then◌else◌};
 ghost use Rattle.std.specs.List.{list_any};
 ghost use Rattle.ft_core.specs.declared.tables.Section.TheVariants.{Out};
-ghost use Rattle.ft_core.specs.Grids.{defines, is_for};
-ghost use Rattle.ft_core.specs.Kinds.{monitored, inputs, outputs, controlled, count_of, place_of, defined_kinds, makes_image, is_of};
-ghost use Rattle.ft_mean.specs.Fits.{InputMap, Maps};
-ghost use Rattle.ft_mean.specs.Proper.{AllProper};
-ghost use Rattle.ft_mean.specs.Reading.{IsListOf};
+ghost use Rattle.ft_core.specs.meaning.Grids.{defines, is_for};
+ghost use Rattle.ft_core.specs.meaning.Kinds.{monitored, inputs, outputs, controlled, count_of, place_of, defined_kinds, makes_image, is_of};
+ghost use Rattle.ft_mean.specs.meaning.Fits.{InputMap, Maps};
+ghost use Rattle.ft_mean.specs.meaning.Proper.{AllProper};
+ghost use Rattle.ft_mean.specs.meaning.Reading.{IsListOf};
 ghost use Rattle.ft_scan.specs.steps.Found.{IsWhole};
 ghost use Rattle.ft_scan.specs.steps.Mapping.{CanMap, IsTableOf, HasTargets, IsFilled};
 ghost use Rattle.ft_scan.specs.steps.Rows.{AreValues};

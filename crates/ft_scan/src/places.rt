@@ -1,15 +1,19 @@
 ghost use Rattle.std.specs.Prelude.{◌≡◌, length, IfOk};
-ghost use Rattle.ft_mean.specs.Part.{kinds_of};
+ghost use Rattle.ft_mean.specs.judge.Scope.{kinds_of};
 ghost use Rattle.ft_scan.specs.steps.Put.{ArePut, ArePlacesIn, AreOnce, AreTold};
 ghost use Rattle.ft_scan.specs.steps.Stands.{ArePlaces};
 
 use ft_base::{List, NoMemory};
 use ft_core::Tables;
-use ft_mean::Part;
+use ft_mean::Scope;
 use std::alloc::Global;
 
 /// The places in the set of the variables of a part of one side, in order of declaration.
-pub(crate) fn part_places(alloc: Global, tables: &Tables, part: Part) -> Result<List<u32>, NoMemory>
+pub(crate) fn scope_places(
+    alloc: Global,
+    tables: &Tables,
+    part: Scope,
+) -> Result<List<u32>, NoMemory>
     ensures { IfOk result (ArePlaces tables.now (kinds_of part)) }
 {
     let mut places = List::new(alloc);

@@ -1,7 +1,7 @@
 ghost use Rattle.std.specs.Prelude.{◌≡◌, ◌<◌, ℕ, [], false, replicate, length, Some, IsTrue, IfOk, OnOk};
-ghost use Rattle.ft_core.specs.Items.{IsScanOrder};
-ghost use Rattle.ft_core.specs.Kinds.{defined_kinds, section_of, is_of};
-ghost use Rattle.ft_core.specs.Sound.{is_side, is_memory_of};
+ghost use Rattle.ft_core.specs.meaning.Items.{IsScanOrder};
+ghost use Rattle.ft_core.specs.meaning.Kinds.{defined_kinds, section_of, is_of};
+ghost use Rattle.ft_core.specs.checked.Sound.{is_side, is_memory_of};
 ghost use Rattle.ft_scan.specs.steps.Homes.{AreHomes, IsHome};
 ghost use Rattle.ft_scan.specs.steps.Plan.{IsPlan};
 ghost use Rattle.ft_scan.specs.steps.Planning.{Adds, AddsColumn, AddsEntry, AddsHome, AddsItem, AddsMemory, AddsVariable};

@@ -1,6 +1,6 @@
 ghost use Rattle.std.specs.Prelude.{◌≡◌, ◌∷◌, []};
-ghost use Rattle.ft_core.specs.Kinds.{of_kind};
-ghost use Rattle.ft_mean.specs.Reading.{reading_of};
+ghost use Rattle.ft_core.specs.meaning.Kinds.{of_kind};
+ghost use Rattle.ft_mean.specs.meaning.Reading.{reading_of};
 ghost use Rattle.ft_scan.specs.steps.Rows.{row_view};
 
 use ft_core::{Tables, VarKind, kind_place};

@@ -1,19 +1,19 @@
 ghost use Rattle.std.specs.Prelude.{◌≡◌, ◌++◌, [], ◌∷◌, length, IfOk};
-ghost use Rattle.ft_core.specs.Kinds.{count_of, given_kinds, side_kinds};
-ghost use Rattle.ft_mean.specs.Fits.{Fits};
-ghost use Rattle.ft_mean.specs.Proper.{AllProper};
-ghost use Rattle.ft_mean.specs.Reading.{IsListOf};
+ghost use Rattle.ft_core.specs.meaning.Kinds.{count_of, given_kinds, side_kinds};
+ghost use Rattle.ft_mean.specs.meaning.Fits.{Fits};
+ghost use Rattle.ft_mean.specs.meaning.Proper.{AllProper};
+ghost use Rattle.ft_mean.specs.meaning.Reading.{IsListOf};
 ghost use Rattle.ft_scan.specs.steps.Passing.{passed};
 
 use crate::frame::Frame;
 use crate::law::laws;
 use crate::opening::first_frame;
-use crate::places::{part_places, put_values, tell_values};
+use crate::places::{put_values, scope_places, tell_values};
 use crate::plan::{Step, plan};
 use crate::stepping::run_steps;
 use ft_base::{List, NoMemory};
 use ft_core::{Side, Tables, scan_order};
-use ft_mean::Part;
+use ft_mean::Scope;
 use ft_memo::Told;
 use std::alloc::Global;
 use std::marker::Model;
@@ -70,8 +70,8 @@ impl<'t> Scanner<'t> {
             tables,
             side,
             steps: plan(alloc, tables, side, order.as_slice())?,
-            given: part_places(alloc, tables, Part::Given(side))?,
-            side_variables: part_places(alloc, tables, Part::Whole(side))?,
+            given: scope_places(alloc, tables, Scope::Given(side))?,
+            side_variables: scope_places(alloc, tables, Scope::Whole(side))?,
             frame: first_frame(alloc, tables)?,
             past: Told::new(),
         })
@@ -111,6 +111,6 @@ impl<'t> Scanner<'t> {
             values,
         );
         end_scan(&mut self.frame);
-        self.past = self.past.with(&self.frame.past);
+        self.past = self.past.followed_by(&self.frame.past);
     }
 }

@@ -1,11 +1,11 @@
 //! The steps of one scan, each over what is known of it so far.
 ghost use Rattle.std.specs.Prelude.{◌≡◌, ◌<◌, ℕ, IsTrue, length, slice_set};
 ghost use Rattle.ft_core.specs.declared.tables.Side.{Side};
-ghost use Rattle.ft_core.specs.Kinds.{section_of};
-ghost use Rattle.ft_mean.specs.Cells.{defined};
-ghost use Rattle.ft_mean.specs.Proper.{AllProper};
-ghost use Rattle.ft_mean.specs.Reading.{Reading};
-ghost use Rattle.ft_mean.specs.Safe.{KeepsSizes, IsSafeMemory};
+ghost use Rattle.ft_core.specs.meaning.Kinds.{section_of};
+ghost use Rattle.ft_mean.specs.meaning.Cells.{defined};
+ghost use Rattle.ft_mean.specs.meaning.Proper.{AllProper};
+ghost use Rattle.ft_mean.specs.meaning.Reading.{Reading};
+ghost use Rattle.ft_mean.specs.judge.Safe.{KeepsSizes, IsSafeMemory};
 ghost use Rattle.ft_scan.specs.steps.Frame.{view_of, IsFrameOf, CanTake, Leaves, HasColumn, FindsColumn, HasCell, FindsCell, HasEntry, FindsEntry, AdvancesMemory};
 ghost use Rattle.ft_scan.specs.steps.Plan.{IsPlan};
 ghost use Rattle.ft_scan.specs.steps.Stepping.{sample_of, CanHear, Hears};

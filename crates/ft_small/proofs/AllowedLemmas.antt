@@ -8,11 +8,11 @@ use Rattle.ft_base.specs.Interval.{IsWithin}
 use Rattle.ft_core.specs.declared.tables.Tables.{Tables}
 use Rattle.ft_core.specs.declared.tables.Var.{Var}
 use Rattle.ft_core.specs.declared.tables.VarKind.TheVariants.{Mon, Con, Input, Output}
-use Rattle.ft_core.specs.Kinds.{monitored, count_of, place_of, is_of}
-use Rattle.ft_mean.specs.Value.{truth}
-use Rattle.ft_mean.specs.Reading.{IsVar, init_of, reading_of}
-use Rattle.ft_mean.specs.Memory.{look}
-use Rattle.ft_mean.specs.Allowed.{Allowed, nat_at}
+use Rattle.ft_core.specs.meaning.Kinds.{monitored, count_of, place_of, is_of}
+use Rattle.ft_mean.specs.meaning.Value.{truth}
+use Rattle.ft_mean.specs.meaning.Reading.{IsVar, init_of, reading_of}
+use Rattle.ft_mean.specs.meaning.Memory.{look}
+use Rattle.ft_mean.specs.meaning.Allowed.{Allowed, nat_at}
 use Rattle.ft_small.specs.meaning.SmallSet.{bounds_of}
 use Rattle.ft_small.specs.meaning.SetOf.{IsSetOf, vars_of, var_of}
 use Rattle.ft_small.specs.meaning.Laws.{steady}

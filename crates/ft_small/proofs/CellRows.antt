@@ -9,13 +9,13 @@ use Rattle.std.proofs.lemmas.Int.{ints}
 use Rattle.std.proofs.lemmas.List.Sums.{sum_by-cons}
 use Rattle.ft_base.specs.Interval.{IsWithin}
 use Rattle.ft_core.specs.declared.tables.Section.{Section}
-use Rattle.ft_core.specs.Grids.{Cell, cells_for, row_cells}
+use Rattle.ft_core.specs.meaning.Grids.{Cell, cells_for, row_cells}
 use Rattle.ft_core.specs.declared.term.Cond.TheVariants as cond
 use Rattle.std.specs.Option.{option_map}
-use Rattle.ft_mean.specs.Value.{View, value, truth, compares}
-use Rattle.ft_mean.specs.Cells.{cell_holds, holding}
-use Rattle.ft_mean.specs.Proper.{HasOneCell}
-use Rattle.ft_mean.specs.Equations.{truth-Yes, truth-Compare, value-Num, value-Now}
+use Rattle.ft_mean.specs.meaning.Value.{View, value, truth, compares}
+use Rattle.ft_mean.specs.meaning.Cells.{cell_holds, holding}
+use Rattle.ft_mean.specs.meaning.Proper.{HasOneCell}
+use Rattle.ft_mean.specs.laws.Equations.{truth-Yes, truth-Compare, value-Num, value-Now}
 use Rattle.ft_small.specs.meaning.SetOf.{table_of, cond_of, term_of}
 use Rattle.ft_small.specs.steps.Rows.{row_holds, row_value, result_at, is_within, is_result_within, is_proper_at}
 use Rattle.ft_small.specs.declared.small_set.Guard.{Guard}

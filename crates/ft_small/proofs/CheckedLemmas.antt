@@ -25,14 +25,14 @@ use Rattle.ft_core.specs.declared.tables.VarKind.TheVariants.{Mon, Con, Input, O
 use Rattle.ft_core.specs.declared.term.Cond.{Cond}
 use Rattle.ft_core.specs.declared.term.Cond.TheVariants as cond
 use Rattle.ft_core.specs.declared.term.Term.TheVariants.{Num, Now}
-use Rattle.ft_core.specs.Blocks.{AreBlocks, may_take}
-use Rattle.ft_core.specs.Checked.{IsChecked}
-use Rattle.ft_core.specs.Distinct.{AreDistinct}
-use Rattle.ft_core.specs.Grids.{defines}
-use Rattle.ft_core.specs.Kinds.{controlled, defined_kinds, is_of}
-use Rattle.ft_core.specs.Names.{AreNamed, is_set_name}
-use Rattle.ft_core.specs.Short.{leaves, is_factored, is_short_term, is_short, is_short_grid}
-use Rattle.ft_core.specs.SizeEquations.{leaves-Num, leaves-Now, factored-Num, factored-Now, short-Yes, short-Compare}
+use Rattle.ft_core.specs.checked.Blocks.{AreBlocks, may_take}
+use Rattle.ft_core.specs.checked.Checked.{IsChecked}
+use Rattle.ft_core.specs.checked.Distinct.{AreDistinct}
+use Rattle.ft_core.specs.meaning.Grids.{defines}
+use Rattle.ft_core.specs.meaning.Kinds.{controlled, defined_kinds, is_of}
+use Rattle.ft_core.specs.checked.Names.{AreNamed, is_set_name}
+use Rattle.ft_core.specs.checked.Short.{leaves, is_factored, is_short_term, is_short, is_short_grid}
+use Rattle.ft_core.specs.laws.SizeEquations.{leaves-Num, leaves-Now, factored-Num, factored-Now, short-Yes, short-Compare}
 use Rattle.ft_small.specs.meaning.SmallSet.{IsGoodSmallSet, all_differ, names_in}
 use Rattle.ft_small.specs.meaning.SetOf.{HasNames, block_of, cond_of, table_of, tables_of, term_of, var_of, vars_of}
 use Rattle.ft_small.specs.declared.small_set.Guard.{Guard}

@@ -8,7 +8,7 @@ use Rattle.std.proofs.lemmas.Slice.Eq.{bytes_eq-Decides}
 use Rattle.ft_lex.specs.declared.token.Token.{Token}
 use Rattle.ft_lex.specs.declared.token.TokenKind.{TokenKind}
 use Rattle.ft_lex.specs.declared.token.TokenKind.TheVariants.{Name, Number, Word, Sign, End, Bad}
-use Rattle.ft_lex.specs.Tokens.{is_word, is_word_kind, is_sign, is_sign_kind, token_text}
+use Rattle.ft_lex.specs.meaning.Tokens.{is_word, is_word_kind, is_sign, is_sign_kind, token_text}
 use Rattle.ft_small.specs.meaning.Lexeme.{Lexeme, word, name, number, sign, end, lexeme_as, lexeme_of, lexemes_of}
 use Rattle.ft_small.specs.steps.Cursor.{IsAdmitted, Starts}
 

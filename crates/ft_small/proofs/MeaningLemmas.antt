@@ -10,12 +10,12 @@ use Rattle.ft_core.specs.declared.tables.VarKind.{VarKind}
 use Rattle.ft_core.specs.declared.tables.VarKind.TheVariants.{Mon, Con, Input, Output}
 use Rattle.ft_core.specs.declared.tables.Section.{Section}
 use Rattle.ft_core.specs.declared.tables.Section.TheVariants as section
-use Rattle.ft_core.specs.Kinds.{same_kind}
-use Rattle.ft_core.specs.Reads.{Read, grid_reads}
-use Rattle.ft_mean.specs.Value.{View}
-use Rattle.ft_mean.specs.Laws.{FitsOneTrace, HasOneImage}
-use Rattle.ft_mean.specs.Proper.{AllProper, IsLocal, IsProper}
-use Rattle.ft_mean.specs.Refines.{FirstDiffers, Refines}
+use Rattle.ft_core.specs.meaning.Kinds.{same_kind}
+use Rattle.ft_core.specs.meaning.Reads.{Read, grid_reads}
+use Rattle.ft_mean.specs.meaning.Value.{View}
+use Rattle.ft_mean.specs.laws.Laws.{FitsOneTrace, HasOneImage}
+use Rattle.ft_mean.specs.meaning.Proper.{AllProper, IsLocal, IsProper}
+use Rattle.ft_mean.specs.meaning.Refines.{FirstDiffers, Refines}
 use Rattle.ft_small.specs.meaning.SmallSet.{AreGoodVariables, IsGoodSmallSet, bounds_of}
 use Rattle.ft_small.specs.meaning.SetOf.{HasNames, IsSetOf, block_of, table_of, tables_of, var_of, vars_of}
 use Rattle.ft_small.specs.steps.Short.{AreShort}

@@ -4,13 +4,13 @@ use Rattle.std.specs.Prelude.{IsTrue, nat_le, if◌then◌else◌, Result, Ok, E
 use Rattle.std.specs.Bool.{MatchBool}
 use Rattle.std.specs.List.{list_all, prefix_len}
 use Rattle.std.proofs.lemmas.Bool.{and_parts, and_from, cases_Bool, or_left}
-use Rattle.ft_core.specs.Names.{is_set_name, is_set_name_byte}
+use Rattle.ft_core.specs.checked.Names.{is_set_name, is_set_name_byte}
 use Rattle.ft_lex.specs.declared.token.Token.{Token}
 use Rattle.ft_lex.specs.declared.token.TokenKind.{TokenKind}
 use Rattle.ft_lex.specs.declared.token.TokenKind.TheVariants as kind
 use Rattle.ft_base.specs.Digits.{is_digit}
 use Rattle.ft_base.specs.Names as byte
-use Rattle.ft_lex.specs.Tokens.{AreTokensFrom, IsNameShape, IsNext, IsShape, is_last}
+use Rattle.ft_lex.specs.meaning.Tokens.{AreTokensFrom, IsNameShape, IsNext, IsShape, is_last}
 use Rattle.ft_small.specs.meaning.SmallSet.{SpellsSmallSet, bound_lexemes, guard_lexemes, entry_lexemes, rows_lexemes, table_lexemes, variable_lexemes, variables_lexemes, tables_lexemes, head_lexemes, block_lexemes, small_set_lexemes, names_in}
 use Rattle.ft_small.specs.meaning.SetOf.{HasNames}
 use Rattle.ft_small.specs.meaning.Lexeme.{Lexeme, word, name, number, sign, end, bad, is_short, lexeme_as, lexeme_of, lexemes_of}

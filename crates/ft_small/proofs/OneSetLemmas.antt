@@ -8,9 +8,9 @@ use Rattle.ft_core.specs.declared.tables.Table.{Table}
 use Rattle.ft_core.specs.declared.tables.Var.{Var}
 use Rattle.ft_core.specs.declared.tables.Memory.{Memory}
 use Rattle.ft_core.specs.declared.term.Cond.{Cond}
-use Rattle.ft_core.specs.Checked.{IsChecked, checked_prop}
-use Rattle.ft_core.specs.Sound.{IsSound}
-use Rattle.ft_lex.specs.Tokens.{OneTokens}
+use Rattle.ft_core.specs.checked.Checked.{IsChecked, checked_prop}
+use Rattle.ft_core.specs.checked.Sound.{IsSound}
+use Rattle.ft_lex.specs.meaning.Tokens.{OneTokens}
 use Rattle.ft_small.specs.meaning.Lexeme.{lexemes_of}
 use Rattle.ft_small.specs.meaning.SmallSet.{Reads, SpellsSmallSet}
 use Rattle.ft_small.specs.meaning.SetOf.{IsSetOf}

@@ -22,13 +22,13 @@ use Rattle.ft_core.specs.declared.term.Term.TheVariants.{Num, Now, rolls-Num, ro
 use Rattle.ft_core.specs.declared.term.Cond.{Cond}
 use Rattle.ft_core.specs.declared.term.Cond.TheOpen as cl
 use Rattle.ft_core.specs.declared.term.Cond.TheVariants as cond
-use Rattle.ft_core.specs.Kinds.{defined_kinds, of_kind, is_of, place_of}
-use Rattle.ft_core.specs.Grids.{Cell, cells_for, is_for, is_section, is_shaped, defines}
-use Rattle.ft_core.specs.Reads.{Read, at_now, at_before, of_memory, of_age, term_reads, cond_reads, grid_reads, cell_reads}
-use Rattle.ft_core.specs.Size.{var_size, is_sized_term, is_sized, is_sized_grid}
-use Rattle.ft_core.specs.Sound.{IsSound, may_read, item_reads, is_current}
-use Rattle.ft_core.specs.SizeEquations.{small-Num, small-Now, sized-Yes, sized-Compare}
-use Rattle.ft_core.specs.Equations.{reads-rolled, cond_reads-rolled}
+use Rattle.ft_core.specs.meaning.Kinds.{defined_kinds, of_kind, is_of, place_of}
+use Rattle.ft_core.specs.meaning.Grids.{Cell, cells_for, is_for, is_section, is_shaped, defines}
+use Rattle.ft_core.specs.meaning.Reads.{Read, at_now, at_before, of_memory, of_age, term_reads, cond_reads, grid_reads, cell_reads}
+use Rattle.ft_core.specs.checked.Size.{var_size, is_sized_term, is_sized, is_sized_grid}
+use Rattle.ft_core.specs.checked.Sound.{IsSound, may_read, item_reads, is_current}
+use Rattle.ft_core.specs.laws.SizeEquations.{small-Num, small-Now, sized-Yes, sized-Compare}
+use Rattle.ft_core.specs.laws.Equations.{reads-rolled, cond_reads-rolled}
 use Rattle.ft_small.specs.meaning.SmallSet.{HasRows, HaveRows, IsGoodSmallSet, IsGoodVariable, AreGoodVariables, bound_value}
 use Rattle.ft_small.specs.meaning.SetOf.{var_of, vars_of, tables_of, table_of, cond_of, term_of}
 use Rattle.ft_small.specs.steps.Short.{AreShort, HaveShortNumbers, is_short_bound, is_short_entry, is_short_guard}

@@ -15,17 +15,17 @@ use Rattle.ft_core.specs.declared.tables.VarKind.TheVariants.{Mon, Con, Input, O
 use Rattle.ft_core.specs.declared.tables.Section.{Section}
 use Rattle.ft_core.specs.declared.tables.Section.TheVariants as section
 use Rattle.ft_core.specs.declared.tables.Side.TheVariants as side
-use Rattle.ft_core.specs.Kinds.{Kinds, monitored, controlled, inputs, defined_kinds, side_kinds}
-use Rattle.ft_core.specs.Grids.{cells_for, is_section}
-use Rattle.ft_mean.specs.Value.{View, value}
-use Rattle.ft_mean.specs.Reading.{Scans, IsVar, reading_of}
-use Rattle.ft_mean.specs.Memory.{look}
-use Rattle.ft_mean.specs.Cells.{cells_of, defined, holding}
-use Rattle.ft_mean.specs.Proper.{IsProper, AllProper, HasOneCell}
-use Rattle.ft_mean.specs.Fits.{side_reading}
-use Rattle.ft_mean.specs.Allowed.{Allowed}
-use Rattle.ft_mean.specs.Laws.{FitsOneTrace, HasOneImage}
-use Rattle.ft_mean.specs.Refines.{FirstDiffers, Refines, Runs, SameAt}
+use Rattle.ft_core.specs.meaning.Kinds.{Kinds, monitored, controlled, inputs, defined_kinds, side_kinds}
+use Rattle.ft_core.specs.meaning.Grids.{cells_for, is_section}
+use Rattle.ft_mean.specs.meaning.Value.{View, value}
+use Rattle.ft_mean.specs.meaning.Reading.{Scans, IsVar, reading_of}
+use Rattle.ft_mean.specs.meaning.Memory.{look}
+use Rattle.ft_mean.specs.meaning.Cells.{cells_of, defined, holding}
+use Rattle.ft_mean.specs.meaning.Proper.{IsProper, AllProper, HasOneCell}
+use Rattle.ft_mean.specs.meaning.Fits.{side_reading}
+use Rattle.ft_mean.specs.meaning.Allowed.{Allowed}
+use Rattle.ft_mean.specs.laws.Laws.{FitsOneTrace, HasOneImage}
+use Rattle.ft_mean.specs.meaning.Refines.{FirstDiffers, Refines, Runs, SameAt}
 use Rattle.ft_small.specs.meaning.SmallSet.{bounds_of}
 use Rattle.ft_small.specs.meaning.SetOf.{IsSetOf, vars_of, var_of, tables_of, table_of}
 use Rattle.ft_small.specs.steps.Rows.{IsProperOn, IsSameOn, result_at, required_at, designed_at}

@@ -1,7 +1,7 @@
 ghost use Rattle.std.specs.Prelude.{◌≡◌, ◌++◌, codes, IsTrue, IsFalse, IfOk, IfSome, IfNone};
 ghost use Rattle.ft_core.specs.declared.tables.Tables.{Tables};
-ghost use Rattle.ft_mean.specs.Proper.{AllProper};
-ghost use Rattle.ft_mean.specs.Refines.{FirstDiffers, Refines};
+ghost use Rattle.ft_mean.specs.meaning.Proper.{AllProper};
+ghost use Rattle.ft_mean.specs.meaning.Refines.{FirstDiffers, Refines};
 ghost use Rattle.ft_small.specs.meaning.SmallSet.{IsGoodSmallSet};
 ghost use Rattle.ft_small.specs.meaning.SetOf.{IsSetOf};
 ghost use Rattle.ft_small.specs.meaning.Finding.{HasPoints, IsFirstImproper, section_word};

@@ -1,6 +1,6 @@
 ghost use Rattle.std.specs.Prelude.{◌≡◌, ◌∷◌, ◌<◌, ◌-◌, ◌^◌, ℕ, List, codes, length, IfOk, OnOk, IsOkUnless};
 ghost use Rattle.std.specs.List.{All, list_all};
-ghost use Rattle.ft_lex.specs.Tokens.{LiesIn, IsTokens};
+ghost use Rattle.ft_lex.specs.meaning.Tokens.{LiesIn, IsTokens};
 ghost use Rattle.ft_lex.specs.declared.token.Token.{Token};
 ghost use Rattle.ft_core.specs.declared.term.Rel.{Rel};
 ghost use Rattle.ft_small.specs.declared.small_set.Bound.{Bound};

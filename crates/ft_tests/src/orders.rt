@@ -1,5 +1,5 @@
 ghost use Rattle.std.specs.Prelude.{◌<◌, ℕ, Contains, IsTrue};
-ghost use Rattle.ft_core.specs.Order.{AreItems};
+ghost use Rattle.ft_core.specs.meaning.Order.{AreItems};
 
 use ft_base::{List, NoMemory};
 use ft_core::{OrderFault, order};

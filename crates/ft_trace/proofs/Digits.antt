@@ -3,7 +3,7 @@ use Rattle.std.proofs.Common.{◌≡◌, ℕ, ◌+◌, ◌*◌, ◌<◌, ◌≤�
 use Rattle.std.specs.Prelude.{◌^◌, option_and_then}
 use Rattle.std.proofs.lemmas.List.{drop_more}
 use Rattle.std.proofs.Math.Nat.{pow-succ', pow-le-pow_right}
-use Rattle.ft_trace.specs.Decimal.{digit_of, digits_after}
+use Rattle.ft_trace.specs.meaning.Decimal.{digit_of, digits_after}
 
 -- the digits from a place on
 pub digits-step : (field : List ℕ) (i value : ℕ) → i < length field

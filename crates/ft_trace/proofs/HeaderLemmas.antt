@@ -4,10 +4,10 @@ use Rattle.std.specs.List.{list_all}
 use Rattle.std.proofs.lemmas.Option.{none-some, same_Some}
 use Rattle.std.specs.Cmp.Lexicographic.{bytes_decides}
 use Rattle.ft_core.specs.declared.tables.Tables.{Tables}
-use Rattle.ft_core.specs.Kinds.{count_of, monitored}
+use Rattle.ft_core.specs.meaning.Kinds.{count_of, monitored}
 use Rattle.csv.specs.Records.{field_at}
-use Rattle.ft_trace.specs.Row.{is_field, is_monitored, is_named}
-use Rattle.ft_trace.specs.Spelling.{IsHeader, Row}
+use Rattle.ft_trace.specs.rows.Row.{is_field, is_monitored, is_named}
+use Rattle.ft_trace.specs.meaning.Spelling.{IsHeader, Row}
 use Rattle.ft_trace.proofs.PlaceLemmas.{own-place}
 use Rattle.ft_trace.proofs.RowLemmas.{field-is}
 

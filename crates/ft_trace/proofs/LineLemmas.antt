@@ -8,9 +8,9 @@ use Rattle.csv.specs.Writing.{default_writer, field_text, fields_text, is_blank,
 use Rattle.ft_core.specs.declared.tables.Var.{Var}
 use Rattle.ft_base.specs.Digits.{is_digit}
 use Rattle.ft_base.specs.Names.{is_letter}
-use Rattle.ft_core.specs.Names.{is_lettered, is_mark, is_set_name, is_set_name_byte}
-use Rattle.ft_trace.specs.Row.{is_monitored}
-use Rattle.ft_trace.specs.Writing.{fields_by, line_of}
+use Rattle.ft_core.specs.checked.Names.{is_lettered, is_mark, is_set_name, is_set_name_byte}
+use Rattle.ft_trace.specs.rows.Row.{is_monitored}
+use Rattle.ft_trace.specs.meaning.Writing.{fields_by, line_of}
 use Rattle.ft_trace.proofs.NumberLemmas.{decimal-is}
 
 -- a field with at least one byte, and none that calls for quotes

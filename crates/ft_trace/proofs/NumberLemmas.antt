@@ -7,7 +7,7 @@ use Rattle.std.proofs.lemmas.Fmt.{decimal_by_steps, decimal_nonempty, length-dec
 use Rattle.std.proofs.lemmas.Option.{none-some, same_Some}
 use Rattle.std.proofs.lemmas.Bool.{cases_Bool, ltb-true, cond-false, eqb-true}
 use Rattle.csv.specs.Writing.{default_writer, needs_byte}
-use Rattle.ft_trace.specs.Decimal.{digit_of, digits_after, minus, natural_of, negated, number_of}
+use Rattle.ft_trace.specs.meaning.Decimal.{digit_of, digits_after, minus, natural_of, negated, number_of}
 
 digit-is : (d : ℕ) → d < 10 → digit_of (48 + d) ≡ Some d
 digit-is zero l = refl

@@ -4,12 +4,12 @@ use Rattle.std.proofs.lemmas.List.{append-nil}
 use Rattle.std.proofs.lemmas.Option.{none-some, same_Some, get_or_from_slice_get}
 use Rattle.ft_core.specs.declared.tables.Tables.{Tables}
 use Rattle.ft_core.specs.declared.tables.Var.{Var}
-use Rattle.ft_core.specs.Kinds.{monitored, place_of}
-use Rattle.ft_mean.specs.Reading.{Scans}
+use Rattle.ft_core.specs.meaning.Kinds.{monitored, place_of}
+use Rattle.ft_mean.specs.meaning.Reading.{Scans}
 use Rattle.ft_base.specs.Interval.{IsWithin}
-use Rattle.ft_mean.specs.RowLaws.{SameRows}
-use Rattle.ft_trace.specs.Field.{field_value}
-use Rattle.ft_trace.specs.Spelling.{FaultAfter, FaultNext, FirstBad, HasNoHeader, IsFirstFault, IsNoValue, IsOutside, RecordFault, Row, SpellAll, SpellsAt, SpellsHistory, SpellsScan, SpellsSoFar}
+use Rattle.ft_mean.specs.laws.RowLaws.{SameRows}
+use Rattle.ft_trace.specs.meaning.Field.{field_value}
+use Rattle.ft_trace.specs.meaning.Spelling.{FaultAfter, FaultNext, FirstBad, HasNoHeader, IsFirstFault, IsNoValue, IsOutside, RecordFault, Row, SpellAll, SpellsAt, SpellsHistory, SpellsScan, SpellsSoFar}
 use Rattle.ft_trace.specs.declared.fault.TraceFault.{TraceFault}
 use Rattle.ft_trace.specs.declared.fault.TraceFault.TheVariants as faults
 

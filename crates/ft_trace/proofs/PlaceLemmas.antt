@@ -9,9 +9,9 @@ use Rattle.ft_core.specs.declared.tables.Tables.{Tables}
 use Rattle.ft_core.specs.declared.tables.Var.{Var}
 use Rattle.ft_core.specs.declared.tables.VarKind.{VarKind}
 use Rattle.ft_core.specs.declared.tables.VarKind.TheVariants as kind
-use Rattle.ft_core.specs.Kinds.{Kinds, after_first, count_of, monitored, of_kind, place_of, same_kind}
-use Rattle.ft_mean.specs.Reading.{IsVar}
-use Rattle.ft_trace.specs.Row.{is_monitored}
+use Rattle.ft_core.specs.meaning.Kinds.{Kinds, after_first, count_of, monitored, of_kind, place_of, same_kind}
+use Rattle.ft_mean.specs.meaning.Reading.{IsVar}
+use Rattle.ft_trace.specs.rows.Row.{is_monitored}
 
 pub set-length : {A : Type 0} (xs : List A) (i : ℕ) (y : A) → length (slice_set xs i y) ≡ length xs
 set-length [] i y = refl

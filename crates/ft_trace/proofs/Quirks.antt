@@ -2,7 +2,7 @@
 use Rattle.std.proofs.Common.{◌≡◌, refl, pos, negsuc, [], ◌∷◌, ◌++◌, Some, None, codes}
 use Rattle.csv.specs.Machine.{next_record}
 use Rattle.csv.specs.Reading.{default_config, records, records_from, strip_bom}
-use Rattle.ft_trace.specs.Decimal.{digits_after, number_of}
+use Rattle.ft_trace.specs.meaning.Decimal.{digits_after, number_of}
 
 -- CR, LF and CRLF end a record; blank lines are dropped; the last line needs no line feed
 line-ends : records default_config (codes "a\r\n\n\r\r\nb\rc") ≡ (codes "a" ∷ []) ∷ (codes "b" ∷ []) ∷ (codes "c" ∷ []) ∷ []

@@ -3,10 +3,10 @@ use Rattle.std.proofs.Common.{◌≡◌, ◌∙◌, sym, ap, subst, refl, ℕ, �
 use Rattle.std.specs.Prelude.{◌≢◌}
 use Rattle.std.proofs.lemmas.List.{length-append}
 use Rattle.ft_core.specs.declared.tables.Tables.{Tables}
-use Rattle.ft_mean.specs.Reading.{Scans}
-use Rattle.ft_trace.specs.Left.{Left}
-use Rattle.ft_trace.specs.Reader.{HasGiven, IsEnd}
-use Rattle.ft_trace.specs.Spelling.{FaultNext, IsFirstFault, IsHeader, NextScan, Row, SpellAll, SpellsHistory, SpellsScan, SpellsSoFar, records_of}
+use Rattle.ft_mean.specs.meaning.Reading.{Scans}
+use Rattle.ft_trace.specs.meaning.Left.{Left}
+use Rattle.ft_trace.specs.meaning.Reader.{HasGiven, IsEnd}
+use Rattle.ft_trace.specs.meaning.Spelling.{FaultNext, IsFirstFault, IsHeader, NextScan, Row, SpellAll, SpellsHistory, SpellsScan, SpellsSoFar, records_of}
 use Rattle.ft_trace.specs.declared.fault.TraceFault.{TraceFault}
 use Rattle.ft_trace.specs.declared.fault.TraceFault.TheVariants as faults
 use Rattle.ft_trace.specs.declared.reading.End.{End}

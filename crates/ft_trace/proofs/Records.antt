@@ -8,7 +8,7 @@ use Rattle.csv.specs.declared.parser.Config.{Config}
 use Rattle.csv.specs.declared.parser.State.{State}
 use Rattle.csv.specs.declared.parser.State.TheVariants as st
 use Rattle.csv.specs.declared.reader.Reader.{Reader}
-use Rattle.ft_trace.specs.Source.{Follows, IsPlain, records_at, records_known, rows_left}
+use Rattle.ft_trace.specs.meaning.Source.{Follows, IsPlain, records_at, records_known, rows_left}
 
 -- a record takes bytes, or stands at the end of them
 abbrev Takes : List ℕ → Read → Type 0

@@ -6,14 +6,14 @@ use Rattle.std.proofs.lemmas.Option.{none-some, same_Some, slice_get_read}
 use Rattle.csv.specs.Records.{field_at}
 use Rattle.ft_core.specs.declared.tables.Tables.{Tables}
 use Rattle.ft_core.specs.declared.tables.Var.{Var}
-use Rattle.ft_core.specs.Kinds.{count_of, monitored, place_of}
-use Rattle.ft_mean.specs.Reading.{IsVar}
-use Rattle.ft_trace.specs.Row.{HasPlace, IsRead, ReadsField, StopsAt, is_monitored}
-use Rattle.ft_trace.specs.Spelling.{Row, RowFault, SpellsAt, SpellsBefore, SpellsScan}
+use Rattle.ft_core.specs.meaning.Kinds.{count_of, monitored, place_of}
+use Rattle.ft_mean.specs.meaning.Reading.{IsVar}
+use Rattle.ft_trace.specs.rows.Row.{HasPlace, IsRead, ReadsField, StopsAt, is_monitored}
+use Rattle.ft_trace.specs.meaning.Spelling.{Row, RowFault, SpellsAt, SpellsBefore, SpellsScan}
 use Rattle.ft_trace.specs.declared.fault.TraceFault.{TraceFault}
 use Rattle.ft_trace.specs.declared.fault.TraceFault.TheVariants as faults
 use Rattle.ft_trace.proofs.PlaceLemmas.{other-place, own-place, place-within, set-length}
-use Rattle.ft_core.specs.Places.{set-here, set-there}
+use Rattle.ft_core.specs.laws.Places.{set-here, set-there}
 
 pub field-is : (fields : Row) (i : ℕ) → field_at fields i ≡ slice_get fields i
 unfolding field_at

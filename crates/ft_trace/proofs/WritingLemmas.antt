@@ -18,18 +18,18 @@ use Rattle.csv.proofs.RoundTrip.{rows_text}
 use Rattle.ft_base.specs.Interval.{IsWithin}
 use Rattle.ft_core.specs.declared.tables.Tables.{Tables}
 use Rattle.ft_core.specs.declared.tables.Var.{Var}
-use Rattle.ft_core.specs.Kinds.{Kinds, after_first, count_of, is_of, monitored, place_of}
-use Rattle.ft_core.specs.Checked.{AreChecked, IsChecked}
-use Rattle.ft_core.specs.Distinct.{AreDistinct}
-use Rattle.ft_core.specs.Names.{fact_names, is_set_name, memory_name}
-use Rattle.ft_mean.specs.Reading.{IsListOf, IsVar, Scans, reading_of}
-use Rattle.ft_trace.specs.Decimal.{number_of}
-use Rattle.ft_trace.specs.Field.{field_value}
-use Rattle.ft_trace.specs.Row.{is_monitored}
-use Rattle.ft_trace.specs.Source.{records_at}
-use Rattle.ft_trace.specs.Spelling.{IsHeader, Row, SpellAll, SpellsAt, SpellsHistory, records_of}
-use Rattle.ft_trace.specs.Writer.{HasValue, IsMember, field_if}
-use Rattle.ft_trace.specs.Writing.{field_of, fields_by, line_of, member_name, name_of, scan_field, trace_text}
+use Rattle.ft_core.specs.meaning.Kinds.{Kinds, after_first, count_of, is_of, monitored, place_of}
+use Rattle.ft_core.specs.checked.Checked.{AreChecked, IsChecked}
+use Rattle.ft_core.specs.checked.Distinct.{AreDistinct}
+use Rattle.ft_core.specs.checked.Names.{fact_names, is_set_name, memory_name}
+use Rattle.ft_mean.specs.meaning.Reading.{IsListOf, IsVar, Scans, reading_of}
+use Rattle.ft_trace.specs.meaning.Decimal.{number_of}
+use Rattle.ft_trace.specs.meaning.Field.{field_value}
+use Rattle.ft_trace.specs.rows.Row.{is_monitored}
+use Rattle.ft_trace.specs.meaning.Source.{records_at}
+use Rattle.ft_trace.specs.meaning.Spelling.{IsHeader, Row, SpellAll, SpellsAt, SpellsHistory, records_of}
+use Rattle.ft_trace.specs.rows.Writer.{HasValue, IsMember, field_if}
+use Rattle.ft_trace.specs.meaning.Writing.{field_of, fields_by, line_of, member_name, name_of, scan_field, trace_text}
 use Rattle.ft_trace.proofs.HeaderLemmas.{all-at}
 use Rattle.ft_trace.proofs.LineLemmas.{ArePlain, IsPlain, and-first, and-second, line-of-fields, name-plain, named-line, number-plain, plain-by}
 use Rattle.ft_trace.proofs.NumberLemmas.{number-is}

@@ -3,7 +3,7 @@ use Rattle.std.proofs.Common.{◌≡◌, ◌∙◌, ℕ, List, [], ◌∷◌, �
 use Rattle.csv.specs.Writing.{default_writer, read_back, row_text}
 use Rattle.csv.specs.declared.parser.State.TheVariants as st
 use Rattle.csv.proofs.RoundTrip.{read-write, rows_text}
-use Rattle.ft_trace.specs.Source.{records_at}
+use Rattle.ft_trace.specs.meaning.Source.{records_at}
 use Rattle.ft_trace.proofs.Records.{first-record, nothing-left}
 
 pub records-written : (rows : List (List (List ℕ))) → records_at st.StartRecord (rows_text rows) ≡ map read_back rows

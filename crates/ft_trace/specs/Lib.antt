@@ -1,9 +1,2 @@
-pub mod Decimal
-pub mod Field
-pub mod Left
-pub mod Reader
-pub mod Row
-pub mod Source
-pub mod Spelling
-pub mod Writer
-pub mod Writing
+pub mod meaning
+pub mod rows

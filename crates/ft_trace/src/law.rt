@@ -1,8 +1,8 @@
 //! Which history bytes spell, over the definitions alone.
 ghost use Rattle.std.specs.Prelude.{ℕ, List, ◌≡◌};
 ghost use Rattle.ft_core.specs.declared.tables.Tables.{Tables};
-ghost use Rattle.ft_mean.specs.Reading.{Scans};
-ghost use Rattle.ft_trace.specs.Spelling.{IsFirstFault, SpellsHistory};
+ghost use Rattle.ft_mean.specs.meaning.Reading.{Scans};
+ghost use Rattle.ft_trace.specs.meaning.Spelling.{IsFirstFault, SpellsHistory};
 ghost use Rattle.ft_trace.specs.declared.fault.TraceFault.{TraceFault};
 ghost use Rattle.ft_trace.specs.declared.fault.TraceFault.TheVariants as faults;
 

@@ -2,11 +2,11 @@
 ghost use Rattle.std.specs.Prelude.{ℕ, ◌≡◌, ◌≢◌, ◌≤◌, ◌∷◌, ◌++◌, [], List, Some, length, IfOk, IfErr, OnOk, IfSome, MatchBool, false};
 ghost use Rattle.csv.specs.Records.{fields_of};
 ghost use Rattle.ft_trace.specs.declared.fault.TraceFault.TheVariants as faults;
-ghost use Rattle.ft_core.specs.Kinds.{monitored, count_of};
-ghost use Rattle.ft_mean.specs.Reading.{Scans};
-ghost use Rattle.ft_trace.specs.Reader.{HasGiven, answer_of};
-ghost use Rattle.ft_trace.specs.Source.{Follows, rows_left};
-ghost use Rattle.ft_trace.specs.Spelling.{FaultNext, IsFirstFault, NextScan, OpenFault, SpellsHistory};
+ghost use Rattle.ft_core.specs.meaning.Kinds.{monitored, count_of};
+ghost use Rattle.ft_mean.specs.meaning.Reading.{Scans};
+ghost use Rattle.ft_trace.specs.meaning.Reader.{HasGiven, answer_of};
+ghost use Rattle.ft_trace.specs.meaning.Source.{Follows, rows_left};
+ghost use Rattle.ft_trace.specs.meaning.Spelling.{FaultNext, IsFirstFault, NextScan, OpenFault, SpellsHistory};
 ghost use Rattle.ft_trace.specs.declared.reading.End.TheVariants as end;
 
 use crate::TraceFault;
@@ -82,11 +82,11 @@ pub struct TraceReader<'b> {
 }
 
 impl<'b> Model for TraceReader<'b> {
-    ghost use Rattle.ft_trace.specs.Left.{Left};
+    ghost use Rattle.ft_trace.specs.meaning.Left.{Left};
 
     ghost Value = { Left };
 
-    ghost use Rattle.ft_trace.specs.Left.{left_of, Keeps};
+    ghost use Rattle.ft_trace.specs.meaning.Left.{left_of, Keeps};
 
     ghost view = { left_of };
 

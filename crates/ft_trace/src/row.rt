@@ -2,10 +2,10 @@
 ghost use Rattle.std.specs.Prelude.{ℕ, ◌≡◌, ◌↔◌, ◌<◌, ◌≤◌, IsTrue, List, length, slice_get, slice_set, option_map, Some, OnOk, IfOk, IfErr};
 ghost use Rattle.std.specs.List.{count_by, list_all};
 ghost use Rattle.csv.specs.Records.{fields_of};
-ghost use Rattle.ft_core.specs.Kinds.{monitored, count_of};
-ghost use Rattle.ft_trace.specs.Field.{Spells};
-ghost use Rattle.ft_trace.specs.Row.{FieldFault, HasPlace, ReadsField, StopsAt, is_field, is_monitored, is_named};
-ghost use Rattle.ft_trace.specs.Spelling.{IsHeader, RecordFault, RowFault, SpellsBefore, SpellsScan};
+ghost use Rattle.ft_core.specs.meaning.Kinds.{monitored, count_of};
+ghost use Rattle.ft_trace.specs.meaning.Field.{Spells};
+ghost use Rattle.ft_trace.specs.rows.Row.{FieldFault, HasPlace, ReadsField, StopsAt, is_field, is_monitored, is_named};
+ghost use Rattle.ft_trace.specs.meaning.Spelling.{IsHeader, RecordFault, RowFault, SpellsBefore, SpellsScan};
 
 use crate::TraceFault;
 use crate::field::value_of;

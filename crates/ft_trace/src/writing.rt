@@ -3,12 +3,12 @@ ghost use Rattle.std.specs.Prelude.{◌≡◌, ◌≢◌, ◌≤◌, [], ◌∷�
 ghost use Rattle.std.specs.List.{flat_map};
 ghost use Rattle.csv.specs.Records.{fields_of, partial_of};
 ghost use Rattle.csv.specs.Writing.{default_writer, row_text};
-ghost use Rattle.ft_core.specs.Kinds.{monitored};
-ghost use Rattle.ft_mean.specs.Reading.{IsListOf};
-ghost use Rattle.ft_trace.specs.Row.{is_monitored};
-ghost use Rattle.ft_trace.specs.Spelling.{SpellsHistory};
-ghost use Rattle.ft_trace.specs.Writer.{HasValue, IsMember, IsWhole, field_if, written};
-ghost use Rattle.ft_trace.specs.Writing.{field_of, fields_by, name_of, scan_field, trace_text};
+ghost use Rattle.ft_core.specs.meaning.Kinds.{monitored};
+ghost use Rattle.ft_mean.specs.meaning.Reading.{IsListOf};
+ghost use Rattle.ft_trace.specs.rows.Row.{is_monitored};
+ghost use Rattle.ft_trace.specs.meaning.Spelling.{SpellsHistory};
+ghost use Rattle.ft_trace.specs.rows.Writer.{HasValue, IsMember, IsWhole, field_if, written};
+ghost use Rattle.ft_trace.specs.meaning.Writing.{field_of, fields_by, name_of, scan_field, trace_text};
 
 use crate::row::is_monitored;
 use csv::{ByteRecord, Writer};

@@ -4,8 +4,8 @@ use Rattle.std.specs.List.{flat_map, list_all}
 use Rattle.std.proofs.lemmas.Bool.{and_parts}
 use Rattle.std.proofs.lemmas.List.{map-append}
 use Rattle.std.proofs.lemmas.List.Concat.{flat_map-cons}
-use Rattle.ft_lex.specs.Bytes.{is_blank}
-use Rattle.ft_lex.specs.Reading.{SignsLongest}
+use Rattle.ft_lex.specs.meaning.Bytes.{is_blank}
+use Rattle.ft_lex.specs.lexing.Lexing.{SignsLongest}
 use Rattle.ft_tree.specs.meaning.Line.{Line, Piece, line_bytes, line_text}
 use Rattle.ft_tree.specs.laws.Tokens.{Shape, piece_shape}
 use Rattle.ft_tree.proofs.MadeLemmas.{IsMade, made-after_blanks}

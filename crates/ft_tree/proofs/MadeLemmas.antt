@@ -8,10 +8,10 @@ use Rattle.std.proofs.lemmas.List.Folds.{list_all-append}
 use Rattle.std.proofs.Math.Seq.{take-append_seam, drop-append_seam, drop-append-add}
 use Rattle.ft_lex.specs.declared.token.Token.{Token}
 use Rattle.ft_lex.specs.declared.token.TokenKind.TheVariants.{End}
-use Rattle.ft_lex.specs.Bytes.{begins_space, is_blank}
-use Rattle.ft_lex.specs.Place.{place_after}
-use Rattle.ft_lex.specs.Space.{blank, spaced, ArePieces, IsSpaceBefore}
-use Rattle.ft_lex.specs.Tokens.{AreTokensFrom, Begins, IsNext, IsShape, is_last}
+use Rattle.ft_lex.specs.meaning.Bytes.{begins_space, is_blank}
+use Rattle.ft_lex.specs.meaning.Place.{place_after}
+use Rattle.ft_lex.specs.meaning.Space.{blank, spaced, ArePieces, IsSpaceBefore}
+use Rattle.ft_lex.specs.meaning.Tokens.{AreTokensFrom, Begins, IsNext, IsShape, is_last}
 use Rattle.ft_tree.specs.laws.Tokens.{Shape, token_shape}
 
 -- blanks, as pieces of space

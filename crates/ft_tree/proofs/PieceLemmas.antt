@@ -15,10 +15,10 @@ use Rattle.ft_lex.specs.declared.token.TokenKind.{TokenKind}
 use Rattle.ft_lex.specs.declared.token.TokenKind.TheVariants.{Name, Number, Word, Sign}
 use Rattle.ft_base.specs.Digits.{begins_by_digit, is_digit}
 use Rattle.ft_base.specs.Names.{begins_by_letter, is_letter, is_name_byte, is_reserved_word, reserved_words}
-use Rattle.ft_lex.specs.Bytes.{begins_space, is_blank}
-use Rattle.ft_lex.specs.Reading.{SignsLongest, first_len, sign_len}
-use Rattle.ft_lex.specs.Tokens.{Begins, IsShape, is_last}
-use Rattle.ft_lex.specs.Signs.{signs}
+use Rattle.ft_lex.specs.meaning.Bytes.{begins_space, is_blank}
+use Rattle.ft_lex.specs.lexing.Lexing.{SignsLongest, first_len, sign_len}
+use Rattle.ft_lex.specs.meaning.Tokens.{Begins, IsShape, is_last}
+use Rattle.ft_lex.specs.meaning.Signs.{signs}
 use Rattle.ft_base.specs.Reserved.{found-passes, reserved-begins}
 use Rattle.ft_tree.specs.meaning.Line.{Piece, token, minus, gap, hugs_after, hugs_before, is_history, is_open, piece_text, text_after}
 use Rattle.ft_tree.specs.laws.Tokens.{Shape, kind_of, piece_shape}

@@ -9,7 +9,7 @@ use Rattle.std.proofs.lemmas.List.Folds.{list_all-append}
 use Rattle.ft_base.specs.declared.place.Place.{Place}
 use Rattle.ft_base.specs.Digits.{begins_by_digit, begins-push, is_digit}
 use Rattle.ft_base.specs.Names.{begins_by_letter, is_name, is_name_byte, is_reserved_word}
-use Rattle.ft_lex.specs.Signs.{signs}
+use Rattle.ft_lex.specs.meaning.Signs.{signs}
 use Rattle.ft_tree.specs.declared.expr.Op.{Op}
 use Rattle.ft_tree.specs.declared.expr.Op.TheVariants.{Or, And, Eq, Ne, Lt, Le, Gt, Ge, Add, Sub, Mul, Div}
 use Rattle.ft_tree.specs.declared.expr.Expr.{Expr}

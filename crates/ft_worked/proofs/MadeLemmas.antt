@@ -8,8 +8,8 @@ use Rattle.ft_core.specs.declared.tables.Block.{Block}
 use Rattle.ft_core.specs.declared.tables.Var.{Var}
 use Rattle.ft_core.specs.declared.tables.Memory.{Memory}
 use Rattle.ft_core.specs.declared.term.Cond.{Cond}
-use Rattle.ft_core.specs.Checked.{IsChecked, checked_prop}
-use Rattle.ft_core.specs.Sound.{IsSound}
+use Rattle.ft_core.specs.checked.Checked.{IsChecked, checked_prop}
+use Rattle.ft_core.specs.checked.Sound.{IsSound}
 use Rattle.ft_worked.specs.Made.{Parts, IsMadeOf}
 
 -- what is sound is sound of any parts that equal them

@@ -4,12 +4,12 @@ use Rattle.std.proofs.lemmas.Option.{slice_get_within}
 use Rattle.ft_core.specs.declared.tables.Tables.{Tables}
 use Rattle.ft_core.specs.declared.tables.Var.{Var}
 use Rattle.ft_core.specs.declared.tables.Section.{Section}
-use Rattle.ft_core.specs.Kinds.{Kinds, defined_kinds, image_kinds, is_of}
-use Rattle.ft_mean.specs.Cells.{defined}
-use Rattle.ft_mean.specs.Fits.{Maps}
-use Rattle.ft_mean.specs.Memory.{look}
-use Rattle.ft_mean.specs.Part.{through, at_all, is_list}
-use Rattle.ft_mean.specs.Reading.{Scans, reading_of}
+use Rattle.ft_core.specs.meaning.Kinds.{Kinds, defined_kinds, image_kinds, is_of}
+use Rattle.ft_mean.specs.meaning.Cells.{defined}
+use Rattle.ft_mean.specs.meaning.Fits.{Maps}
+use Rattle.ft_mean.specs.meaning.Memory.{look}
+use Rattle.ft_mean.specs.judge.Scope.{through, at_all, is_list}
+use Rattle.ft_mean.specs.meaning.Reading.{Scans, reading_of}
 use Rattle.ft_worked.proofs.TraceTests.{list_is, through_at, asked_of}
 
 module _ (S : Tables) (section : Section) (kinds : Kinds) (list image : Scans)

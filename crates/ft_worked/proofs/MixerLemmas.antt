@@ -4,14 +4,14 @@ use Rattle.std.proofs.lemmas.Bool.{and_from}
 use Rattle.ft_core.specs.declared.tables.Tables.{Tables}
 use Rattle.ft_core.specs.declared.tables.Side.TheVariants as side
 use Rattle.ft_core.specs.declared.tables.Section.TheVariants as section
-use Rattle.ft_core.specs.Kinds.{monitored, side_kinds, defined_kinds, is_of}
-use Rattle.ft_mean.specs.Allowed.{Allowed, nat_at}
-use Rattle.ft_mean.specs.Cells.{defined}
-use Rattle.ft_mean.specs.Memory.{look, memory_within}
-use Rattle.ft_mean.specs.Part.{at_all}
-use Rattle.ft_mean.specs.Reading.{Reading, reading_of}
-use Rattle.ft_mean.specs.Fits.{Fits, InputMap, OutputMap, side_reading}
-use Rattle.ft_mean.specs.Equations.{evaluation}
+use Rattle.ft_core.specs.meaning.Kinds.{monitored, side_kinds, defined_kinds, is_of}
+use Rattle.ft_mean.specs.meaning.Allowed.{Allowed, nat_at}
+use Rattle.ft_mean.specs.meaning.Cells.{defined}
+use Rattle.ft_mean.specs.meaning.Memory.{look, memory_within}
+use Rattle.ft_mean.specs.judge.Scope.{at_all}
+use Rattle.ft_mean.specs.meaning.Reading.{Reading, reading_of}
+use Rattle.ft_mean.specs.meaning.Fits.{Fits, InputMap, OutputMap, side_reading}
+use Rattle.ft_mean.specs.laws.Equations.{evaluation}
 use Rattle.ft_worked.proofs.TraceTests.{fits, list_is}
 use Rattle.ft_worked.specs.Mixer.{mixer, levels, required, probed, designed, put_out}
 use Rattle.ft_worked.specs.Worked.{MixerRuns, MixerIsWorked}

@@ -10,9 +10,9 @@ use Rattle.ft_base.specs.Interval.{IsWithin}
 use Rattle.ft_core.specs.declared.tables.Tables.{Tables}
 use Rattle.ft_core.specs.declared.tables.Var.{Var}
 use Rattle.ft_core.specs.declared.tables.Memory.{Memory}
-use Rattle.ft_mean.specs.Proper.{AllProper, IsProper, IsLinked}
-use Rattle.ft_mean.specs.Value.{View}
-use Rattle.ft_mean.specs.Equations.{evaluation}
+use Rattle.ft_mean.specs.meaning.Proper.{AllProper, IsProper, IsLinked}
+use Rattle.ft_mean.specs.meaning.Value.{View}
+use Rattle.ft_mean.specs.laws.Equations.{evaluation}
 use Rattle.ft_worked.proofs.Passes.{passes, within, is_within}
 use Rattle.ft_worked.specs.Mixer.{mixer, vars, memories, probe, valve_and_pump, trend, drive, gate, by_design, overlapping}
 use Rattle.ft_worked.specs.Worked.{MixerIsProper}

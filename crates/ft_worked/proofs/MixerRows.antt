@@ -5,8 +5,8 @@ use Rattle.std.proofs.lemmas.Bool.{and_from}
 use Rattle.ft_core.specs.declared.tables.Tables.{Tables}
 use Rattle.ft_core.specs.declared.tables.Side.{Side}
 use Rattle.ft_core.specs.declared.tables.Side.TheVariants as side
-use Rattle.ft_core.specs.Kinds.{Kinds, monitored, inputs, outputs, given_kinds, side_kinds, count_of}
-use Rattle.ft_mean.specs.Reading.{IsListOf}
+use Rattle.ft_core.specs.meaning.Kinds.{Kinds, monitored, inputs, outputs, given_kinds, side_kinds, count_of}
+use Rattle.ft_mean.specs.meaning.Reading.{IsListOf}
 use Rattle.ft_worked.specs.Made.{IsMadeOf}
 use Rattle.ft_worked.specs.Mixer.{mixer}
 use Rattle.ft_worked.proofs.MadeLemmas.{set_of, for_each}

@@ -5,9 +5,9 @@ use Rattle.ft_core.specs.declared.tables.Memory.{Memory}
 use Rattle.ft_core.specs.declared.tables.Table.{Table}
 use Rattle.ft_core.specs.declared.tables.Block.{Block}
 use Rattle.ft_core.specs.declared.term.Cond.{Cond}
-use Rattle.ft_core.specs.Checked.{IsChecked}
-use Rattle.ft_core.specs.CheckedTests.{CheckedByTests, PassesChecks}
-use Rattle.ft_core.specs.SizeEquations.{sizes, lengths}
+use Rattle.ft_core.specs.checked.Checked.{IsChecked}
+use Rattle.ft_core.specs.laws.CheckedTests.{CheckedByTests, PassesChecks}
+use Rattle.ft_core.specs.laws.SizeEquations.{sizes, lengths}
 use Rattle.ft_worked.specs.Mixer.{mixer, blocks}
 use Rattle.ft_worked.proofs.MadeLemmas.{IsSoundOf, checked_as}
 use Rattle.ft_worked.proofs.ReadingRules.{reading}

@@ -13,10 +13,10 @@ use Rattle.ft_core.specs.declared.tables.Table.{Table}
 use Rattle.ft_core.specs.declared.tables.Var.{Var}
 use Rattle.ft_core.specs.declared.tables.Grid.{Grid}
 use Rattle.ft_core.specs.declared.tables.Grid.TheVariants.{Normal, Inverted, Vector}
-use Rattle.ft_core.specs.Grids.{Cell, cells_for, defines}
-use Rattle.ft_mean.specs.Cells.{holding, cell_holds}
-use Rattle.ft_mean.specs.Proper.{HasOneCell, AllProper}
-use Rattle.ft_mean.specs.Value.{View, value}
+use Rattle.ft_core.specs.meaning.Grids.{Cell, cells_for, defines}
+use Rattle.ft_mean.specs.meaning.Cells.{holding, cell_holds}
+use Rattle.ft_mean.specs.meaning.Proper.{HasOneCell, AllProper}
+use Rattle.ft_mean.specs.meaning.Value.{View, value}
 
 -- whether exactly one of these is true
 abbrev pub one_of : List Bool → Bool

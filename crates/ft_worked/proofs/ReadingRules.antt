@@ -9,8 +9,8 @@ use Rattle.ft_core.specs.declared.term.Cond.{Cond}
 use Rattle.ft_core.specs.declared.term.Cond.TheOpen as cl
 use Rattle.ft_core.specs.declared.term.Cond.TheVariants.{Yes, No, Compare, Memory as Recalled, Not, And, rolls-Yes, rolls-No}
 use Rattle.ft_core.specs.declared.term.Cond.TheVariants.{rolls-Compare, rolls-Memory, rolls-Not, rolls-And}
-use Rattle.ft_core.specs.Reads.{at_now, at_before, of_memory, term_reads, cond_reads}
-use Rattle.ft_core.specs.Equations.{reads-rolled, cond_reads-rolled}
+use Rattle.ft_core.specs.meaning.Reads.{at_now, at_before, of_memory, term_reads, cond_reads}
+use Rattle.ft_core.specs.laws.Equations.{reads-rolled, cond_reads-rolled}
 
 pub reads-Num : (n : ℤ) → term_reads (Num n) ≡ []
 reads-Num n = reads-rolled _ (tl.Num n) (rolls-Num n)

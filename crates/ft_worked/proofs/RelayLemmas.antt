@@ -12,23 +12,23 @@ use Rattle.ft_core.specs.declared.tables.Tables.{Tables}
 use Rattle.ft_core.specs.declared.tables.Var.{Var}
 use Rattle.ft_core.specs.declared.tables.Side.TheVariants as side
 use Rattle.ft_core.specs.declared.tables.Section.TheVariants as section
-use Rattle.ft_core.specs.Kinds.{monitored, controlled}
-use Rattle.ft_mean.specs.Allowed.{Allowed, nat_at}
-use Rattle.ft_mean.specs.Cells.{defined}
-use Rattle.ft_mean.specs.Fits.{Fits, InputMap, OutputMap, Only, side_reading}
-use Rattle.ft_mean.specs.Laws.{FitsOneTrace, HasOneImage}
-use Rattle.ft_mean.specs.LookLaws.{MemoriesRemember}
-use Rattle.ft_mean.specs.PastLaws.{SameHeld}
-use Rattle.ft_mean.specs.Whole.{RunsAreWhole, ReadsAsWhole, joint}
-use Rattle.ft_mean.specs.Memory.{at_scan, look, memory_at}
-use Rattle.ft_mean.specs.Past.{held}
-use Rattle.ft_mean.specs.Proper.{AllProper}
-use Rattle.ft_mean.specs.Reading.{Reading, Scans, IsVar, reading_of, begun}
-use Rattle.ft_mean.specs.Refines.{Refines, Runs, FirstDiffers}
-use Rattle.ft_mean.specs.Value.{View, truth, value}
-use Rattle.ft_mean.specs.Equations.{evaluation, value-Num}
+use Rattle.ft_core.specs.meaning.Kinds.{monitored, controlled}
+use Rattle.ft_mean.specs.meaning.Allowed.{Allowed, nat_at}
+use Rattle.ft_mean.specs.meaning.Cells.{defined}
+use Rattle.ft_mean.specs.meaning.Fits.{Fits, InputMap, OutputMap, Only, side_reading}
+use Rattle.ft_mean.specs.laws.Laws.{FitsOneTrace, HasOneImage}
+use Rattle.ft_mean.specs.laws.LookLaws.{MemoriesRemember}
+use Rattle.ft_mean.specs.laws.PastLaws.{SameHeld}
+use Rattle.ft_mean.specs.laws.Whole.{RunsAreWhole, ReadsAsWhole, joint}
+use Rattle.ft_mean.specs.meaning.Memory.{at_scan, look, memory_at}
+use Rattle.ft_mean.specs.meaning.Past.{held}
+use Rattle.ft_mean.specs.meaning.Proper.{AllProper}
+use Rattle.ft_mean.specs.meaning.Reading.{Reading, Scans, IsVar, reading_of, begun}
+use Rattle.ft_mean.specs.meaning.Refines.{Refines, Runs, FirstDiffers}
+use Rattle.ft_mean.specs.meaning.Value.{View, truth, value}
+use Rattle.ft_mean.specs.laws.Equations.{evaluation, value-Num}
 use Rattle.ft_core.specs.declared.term.Term.TheVariants.{Num}
-use Rattle.ft_core.specs.Grids.{Cell}
+use Rattle.ft_core.specs.meaning.Grids.{Cell}
 use Rattle.ft_worked.specs.Relay.{relay, vars, tables, is_on, on_thrice}
 use Rattle.ft_worked.specs.Worked.{RelayRefines, LateRelayDiffers}
 use Rattle.ft_worked.proofs.TraceTests.{list_is}

@@ -15,11 +15,11 @@ use Rattle.ft_core.specs.declared.tables.Section.TheVariants as section
 use Rattle.ft_core.specs.declared.tables.Grid.{Grid}
 use Rattle.ft_core.specs.declared.tables.Grid.TheVariants.{Normal, Inverted, Vector}
 use Rattle.ft_core.specs.declared.term.Cond.{Cond}
-use Rattle.ft_core.specs.Kinds.{Kinds, after_first, monitored, defined_kinds, of_kind, is_of, place_of}
-use Rattle.ft_core.specs.Grids.{cells_for, defines, is_section, is_for, is_shaped}
-use Rattle.ft_core.specs.Reads.{Read, at_now, at_before, of_memory, of_age, cond_reads, memory_reads, grid_reads, cell_reads}
-use Rattle.ft_core.specs.Size.{is_sized, is_sized_memory, is_sized_grid}
-use Rattle.ft_core.specs.Sound.{IsSound, AllRead, now_of, step_of, side_of, may_read, on_side, is_current, item_reads}
+use Rattle.ft_core.specs.meaning.Kinds.{Kinds, after_first, monitored, defined_kinds, of_kind, is_of, place_of}
+use Rattle.ft_core.specs.meaning.Grids.{cells_for, defines, is_section, is_for, is_shaped}
+use Rattle.ft_core.specs.meaning.Reads.{Read, at_now, at_before, of_memory, of_age, cond_reads, memory_reads, grid_reads, cell_reads}
+use Rattle.ft_core.specs.checked.Size.{is_sized, is_sized_memory, is_sized_grid}
+use Rattle.ft_core.specs.checked.Sound.{IsSound, AllRead, now_of, step_of, side_of, may_read, on_side, is_current, item_reads}
 use Rattle.ft_worked.proofs.Passes.{each, passes, all_pass, from_one, asked, is_within, within}
 use Rattle.ft_worked.proofs.ProperTests.{targets_of}
 

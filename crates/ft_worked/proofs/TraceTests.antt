@@ -11,12 +11,12 @@ use Rattle.std.proofs.lemmas.Option.{slice_get_within}
 use Rattle.ft_core.specs.declared.tables.Tables.{Tables}
 use Rattle.ft_core.specs.declared.tables.Var.{Var}
 use Rattle.ft_core.specs.declared.tables.Side.{Side}
-use Rattle.ft_core.specs.Kinds.{Kinds, given_kinds, defined_kinds, side_kinds, section_of, is_of, count_of}
-use Rattle.ft_mean.specs.Cells.{defined}
-use Rattle.ft_mean.specs.Fits.{Fits, side_reading}
-use Rattle.ft_mean.specs.Memory.{look}
-use Rattle.ft_mean.specs.Part.{through, is_inside, in_range, is_row, is_list, has_given, at_all}
-use Rattle.ft_mean.specs.Reading.{Scans, IsListOf, IsVar, reading_of}
+use Rattle.ft_core.specs.meaning.Kinds.{Kinds, given_kinds, defined_kinds, side_kinds, section_of, is_of, count_of}
+use Rattle.ft_mean.specs.meaning.Cells.{defined}
+use Rattle.ft_mean.specs.meaning.Fits.{Fits, side_reading}
+use Rattle.ft_mean.specs.meaning.Memory.{look}
+use Rattle.ft_mean.specs.judge.Scope.{through, is_inside, in_range, is_row, is_list, has_given, at_all}
+use Rattle.ft_mean.specs.meaning.Reading.{Scans, IsListOf, IsVar, reading_of}
 use Rattle.ft_worked.proofs.Passes.{all_pass, is_within, within}
 
 -- a test at the first n numbers

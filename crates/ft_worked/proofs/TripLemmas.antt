@@ -2,9 +2,9 @@
 use Rattle.std.proofs.Common.{sym, refl, arith, true≢false}
 use Rattle.ft_core.specs.declared.tables.Tables.{Tables}
 use Rattle.ft_core.specs.declared.tables.Side.TheVariants as side
-use Rattle.ft_mean.specs.Memory.{memory_within}
-use Rattle.ft_mean.specs.Fits.{Fits}
-use Rattle.ft_mean.specs.Equations.{evaluation}
+use Rattle.ft_mean.specs.meaning.Memory.{memory_within}
+use Rattle.ft_mean.specs.meaning.Fits.{Fits}
+use Rattle.ft_mean.specs.laws.Equations.{evaluation}
 use Rattle.ft_worked.specs.Trip.{trip, pressures, opened, opened_early, readings, counted, counted_again}
 use Rattle.ft_worked.specs.Worked.{TripRuns, TripIsWorked}
 use Rattle.ft_worked.proofs.MadeLemmas.{Rest, set_of, for_each}

@@ -6,7 +6,7 @@ use Rattle.ft_core.specs.declared.tables.Var.{Var}
 use Rattle.ft_core.specs.declared.tables.VarKind.{VarKind}
 use Rattle.ft_core.specs.declared.tables.Memory.{Memory}
 use Rattle.ft_core.specs.declared.term.Cond.{Cond}
-use Rattle.ft_mean.specs.Reading.{Scans}
+use Rattle.ft_mean.specs.meaning.Reading.{Scans}
 
 -- all of a set that its meaning looks at
 pub record Parts : Type 0 where

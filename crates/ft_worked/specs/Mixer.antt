@@ -34,7 +34,7 @@ use Rattle.ft_core.specs.declared.term.Rel.TheVariants.{Eq, Lt, Le, Gt, Ge}
 use Rattle.ft_core.specs.declared.term.Term.TheVariants.{Num, Now, Prev, Add, Times, Div}
 use Rattle.ft_core.specs.declared.term.Cond.{Cond}
 use Rattle.ft_core.specs.declared.term.Cond.TheVariants.{Yes, No, Compare, Memory as Recalled, Not}
-use Rattle.ft_mean.specs.Reading.{Scans}
+use Rattle.ft_mean.specs.meaning.Reading.{Scans}
 use Rattle.ft_worked.specs.Made.{Parts, variable, scans}
 
 -- level, valve, pump, probe, drive, gate, trend

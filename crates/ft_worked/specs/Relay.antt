@@ -19,7 +19,7 @@ use Rattle.ft_core.specs.declared.term.Term.{Term}
 use Rattle.ft_core.specs.declared.term.Term.TheVariants.{Num, Now}
 use Rattle.ft_core.specs.declared.term.Cond.{Cond}
 use Rattle.ft_core.specs.declared.term.Cond.TheVariants.{Yes, Compare, Memory as Recalled, Not}
-use Rattle.ft_mean.specs.Reading.{Scans}
+use Rattle.ft_mean.specs.meaning.Reading.{Scans}
 use Rattle.ft_worked.specs.Made.{Parts, variable, scans}
 
 -- switch, relay, input, output

@@ -23,7 +23,7 @@ use Rattle.ft_core.specs.declared.term.Rel.TheVariants.{Eq, Lt, Le, Gt, Ge}
 use Rattle.ft_core.specs.declared.term.Term.TheVariants.{Num, Now, Prev, Add, Div}
 use Rattle.ft_core.specs.declared.term.Cond.TheVariants.{Yes, Compare, Memory as Recalled, Not, And}
 use Rattle.ft_core.specs.declared.term.Cond.{Cond}
-use Rattle.ft_mean.specs.Reading.{Scans}
+use Rattle.ft_mean.specs.meaning.Reading.{Scans}
 use Rattle.ft_worked.specs.Made.{Parts, variable, scans}
 
 -- pressure, valve, adc, coil, above, count

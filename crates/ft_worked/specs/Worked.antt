@@ -2,10 +2,10 @@
 use Rattle.std.specs.Prelude.{pos}
 use Rattle.ft_core.specs.declared.tables.Tables.{Tables}
 use Rattle.ft_core.specs.declared.tables.Side.TheVariants as side
-use Rattle.ft_mean.specs.Allowed.{Allowed}
-use Rattle.ft_mean.specs.Fits.{Fits, InputMap, OutputMap}
-use Rattle.ft_mean.specs.Proper.{AllProper, IsProper}
-use Rattle.ft_mean.specs.Refines.{Refines, FirstDiffers}
+use Rattle.ft_mean.specs.meaning.Allowed.{Allowed}
+use Rattle.ft_mean.specs.meaning.Fits.{Fits, InputMap, OutputMap}
+use Rattle.ft_mean.specs.meaning.Proper.{AllProper, IsProper}
+use Rattle.ft_mean.specs.meaning.Refines.{Refines, FirstDiffers}
 use Rattle.ft_worked.specs.Made.{IsMadeOf}
 use Rattle.ft_worked.specs.Mixer.{mixer, levels, required, probed, designed, put_out, overlapping}
 use Rattle.ft_worked.specs.Relay.{relay, on_thrice}

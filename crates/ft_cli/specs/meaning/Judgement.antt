@@ -1,9 +1,9 @@
 -- What a report says of the bytes of a set.
 use Rattle.std.specs.Prelude.{◌≡◌, ℕ, ℤ, List, length}
 use Rattle.ft_core.specs.declared.tables.Tables.{Tables}
-use Rattle.ft_mean.specs.Allowed.{Allowed}
-use Rattle.ft_mean.specs.Proper.{AllProper}
-use Rattle.ft_mean.specs.Refines.{Refines, FirstDiffers, ShortSafe}
+use Rattle.ft_mean.specs.meaning.Allowed.{Allowed}
+use Rattle.ft_mean.specs.meaning.Proper.{AllProper}
+use Rattle.ft_mean.specs.meaning.Refines.{Refines, FirstDiffers, ShortSafe}
 use Rattle.ft_tree.specs.declared.tree.Tree.{Tree}
 use Rattle.ft_parse.specs.meaning.Parse as tree_spelling
 use Rattle.ft_parse.specs.meaning.Parse.{IsFault}

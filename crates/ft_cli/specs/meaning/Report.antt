@@ -4,7 +4,7 @@ use Rattle.std.specs.List.{flat_map, sum_by, join_with_byte}
 use Rattle.std.specs.Fmt.{decimal, signed_decimal}
 use Rattle.ft_core.specs.declared.tables.Tables.{Tables}
 use Rattle.ft_core.specs.declared.tables.VarKind.TheVariants.{Mon}
-use Rattle.ft_core.specs.Kinds.{same_kind}
+use Rattle.ft_core.specs.meaning.Kinds.{same_kind}
 use Rattle.ft_base.specs.declared.place.Place.{Place}
 use Rattle.ft_read.specs.declared.stop.LimitWord.{LimitWord}
 use Rattle.ft_read.specs.declared.stop.LimitWord.TheVariants as limit

@@ -1,8 +1,8 @@
 -- What the stages of a verdict know of a small set: each says it of every checked set of it.
 use Rattle.std.specs.Prelude.{ℕ, ℤ, List}
 use Rattle.ft_core.specs.declared.tables.Tables.{Tables}
-use Rattle.ft_mean.specs.Proper.{AllProper}
-use Rattle.ft_mean.specs.Refines.{FirstDiffers, Refines}
+use Rattle.ft_mean.specs.meaning.Proper.{AllProper}
+use Rattle.ft_mean.specs.meaning.Refines.{FirstDiffers, Refines}
 use Rattle.ft_small.specs.meaning.Finding.{HasPoints}
 use Rattle.ft_small.specs.meaning.Laws.{steady}
 use Rattle.ft_small.specs.meaning.SetOf.{IsSetOf}

@@ -2,7 +2,7 @@
 use Rattle.std.specs.Prelude.{ℕ, ◌≡◌, List, ◌∷◌, ◌++◌, Some, Result, Ok, Err}
 use Rattle.ft_base.specs.declared.place.Place.{Place}
 use Rattle.ft_lex.specs.declared.token.Token.{Token}
-use Rattle.ft_lex.specs.Tokens.{IsTokens}
+use Rattle.ft_lex.specs.meaning.Tokens.{IsTokens}
 use Rattle.ft_tree.specs.declared.tree.Tree.{Tree}
 use Rattle.ft_tree.specs.meaning.Bare.{IsSameTree}
 use Rattle.ft_read.specs.meaning.Lexeme.{Lexeme, lexemes_of}

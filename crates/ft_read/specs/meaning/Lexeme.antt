@@ -6,7 +6,7 @@ use Rattle.ft_base.specs.Digits.{decimal_value}
 use Rattle.ft_lex.specs.declared.token.TokenKind.{TokenKind}
 use Rattle.ft_lex.specs.declared.token.TokenKind.TheVariants as kind
 use Rattle.ft_lex.specs.declared.token.Token.{Token}
-use Rattle.ft_lex.specs.Tokens.{is_sign_kind, is_word_kind, token_text}
+use Rattle.ft_lex.specs.meaning.Tokens.{is_sign_kind, is_word_kind, token_text}
 use Rattle.ft_tree.specs.declared.item.Number.{Number}
 use Rattle.ft_tree.specs.declared.item.Word.{Word}
 

@@ -1,11 +1,11 @@
 -- What the crates below say of the definitions, as far as the scanner's proofs need it.
-use Rattle.ft_mean.specs.EvaluationLaws.{SameValue, SameTruth, SameTruths}
-use Rattle.ft_mean.specs.LookLaws.{MemoriesRemember, SidesReadNoAge, SideLooksSame, LooksAreLocal}
-use Rattle.ft_mean.specs.PastLaws.{SameHeld, SameHyst, HystBegins, HystGoesOn}
-use Rattle.ft_mean.specs.RowLaws.{PlacesAreInside, PlacesAreTaken, SameRows, ReadAtPlace, ReadInRange, ReadInFront, GivenOrDefined}
-use Rattle.ft_mean.specs.TableLaws.{HasTable, CellsAreOfTable, OwnReads, SameDefined, HasOneValue, SectionsAreTold}
-use Rattle.ft_mean.specs.TimeLaws.{BegunLow, BegunPast}
-use Rattle.ft_mean.specs.TraceLaws.{FitsLonger}
+use Rattle.ft_mean.specs.laws.EvaluationLaws.{SameValue, SameTruth, SameTruths}
+use Rattle.ft_mean.specs.laws.LookLaws.{MemoriesRemember, SidesReadNoAge, SideLooksSame, LooksAreLocal}
+use Rattle.ft_mean.specs.laws.PastLaws.{SameHeld, SameHyst, HystBegins, HystGoesOn}
+use Rattle.ft_mean.specs.laws.RowLaws.{PlacesAreInside, PlacesAreTaken, SameRows, ReadAtPlace, ReadInRange, ReadInFront, GivenOrDefined}
+use Rattle.ft_mean.specs.laws.TableLaws.{HasTable, CellsAreOfTable, OwnReads, SameDefined, HasOneValue, SectionsAreTold}
+use Rattle.ft_mean.specs.laws.TimeLaws.{BegunLow, BegunPast}
+use Rattle.ft_mean.specs.laws.TraceLaws.{FitsLonger}
 
 pub record Laws : Type 0 where
   pub same_value : SameValue

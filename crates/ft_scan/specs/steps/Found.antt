@@ -8,9 +8,9 @@ use Rattle.ft_core.specs.declared.tables.Grid.{Grid}
 use Rattle.ft_core.specs.declared.tables.Grid.TheVariants.{Vector}
 use Rattle.ft_core.specs.declared.tables.Table.{Table}
 use Rattle.ft_core.specs.declared.tables.Section.{Section}
-use Rattle.ft_core.specs.Grids.{Cell, is_for}
-use Rattle.ft_mean.specs.Value.{View, value, truth}
-use Rattle.ft_mean.specs.Cells.{holding}
+use Rattle.ft_core.specs.meaning.Grids.{Cell, is_for}
+use Rattle.ft_mean.specs.meaning.Value.{View, value, truth}
+use Rattle.ft_mean.specs.meaning.Cells.{holding}
 
 -- in a row of cells with these conditions and terms: the value of the term of one whose condition holds, or none holds
 abbrev pub IsInRow : View → List Cond → List Term → Option ℤ → Type 0

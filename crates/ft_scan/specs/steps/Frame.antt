@@ -8,9 +8,9 @@ use Rattle.ft_core.specs.declared.tables.Memory.{Memory}
 use Rattle.ft_core.specs.declared.tables.Memory.TheVariants.{Held, Hyst}
 use Rattle.ft_core.specs.declared.term.Cond.{Cond}
 use Rattle.ft_core.specs.declared.term.Term.{Term}
-use Rattle.ft_core.specs.Kinds.{defined_kinds, section_of, is_of}
-use Rattle.ft_mean.specs.Cells.{defined}
-use Rattle.ft_mean.specs.Value.{View, truth, value}
+use Rattle.ft_core.specs.meaning.Kinds.{defined_kinds, section_of, is_of}
+use Rattle.ft_mean.specs.meaning.Cells.{defined}
+use Rattle.ft_mean.specs.meaning.Value.{View, truth, value}
 use Rattle.ft_memo.specs.Timer.{held_after}
 use Rattle.ft_memo.specs.Band.{hyst_after}
 use Rattle.ft_scan.specs.declared.plan.Step.{Step}

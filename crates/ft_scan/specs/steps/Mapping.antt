@@ -7,13 +7,13 @@ use Rattle.ft_core.specs.declared.tables.Section.{Section}
 use Rattle.ft_core.specs.declared.tables.Grid.TheVariants.{Vector}
 use Rattle.ft_core.specs.declared.term.Term.{Term}
 use Rattle.ft_core.specs.declared.term.Cond.{Cond}
-use Rattle.ft_core.specs.Grids.{is_section}
-use Rattle.ft_core.specs.Kinds.{defined_kinds, makes_image}
-use Rattle.ft_mean.specs.Cells.{defined}
-use Rattle.ft_mean.specs.Reading.{IsVar}
-use Rattle.ft_mean.specs.Value.{View}
+use Rattle.ft_core.specs.meaning.Grids.{is_section}
+use Rattle.ft_core.specs.meaning.Kinds.{defined_kinds, makes_image}
+use Rattle.ft_mean.specs.meaning.Cells.{defined}
+use Rattle.ft_mean.specs.meaning.Reading.{IsVar}
+use Rattle.ft_mean.specs.meaning.Value.{View}
 use Rattle.ft_scan.specs.steps.Rows.{HasValues, row_value}
-use Rattle.ft_mean.specs.Safe.{KeepsSizes}
+use Rattle.ft_mean.specs.judge.Safe.{KeepsSizes}
 
 -- a section that makes an image, at a view that keeps the sizes of the set and where some cell holds for each variable that it defines
 pub record CanMap (S : Tables) (section : Section) (V : View) : Type 0 where

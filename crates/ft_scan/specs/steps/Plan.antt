@@ -6,10 +6,10 @@ use Rattle.ft_core.specs.declared.tables.Side.{Side}
 use Rattle.ft_core.specs.declared.tables.Grid.TheVariants.{Vector}
 use Rattle.ft_core.specs.declared.term.Term.{Term}
 use Rattle.ft_core.specs.declared.term.Cond.{Cond}
-use Rattle.ft_core.specs.Grids.{cells_for}
-use Rattle.ft_core.specs.Kinds.{given_kinds, defined_kinds, side_kinds, section_of, is_of}
-use Rattle.ft_core.specs.Reads.{Read, at_now, at_before, of_memory, of_age, cond_reads, cell_reads}
-use Rattle.ft_core.specs.Sound.{item_reads, is_memory_of}
+use Rattle.ft_core.specs.meaning.Grids.{cells_for}
+use Rattle.ft_core.specs.meaning.Kinds.{given_kinds, defined_kinds, side_kinds, section_of, is_of}
+use Rattle.ft_core.specs.meaning.Reads.{Read, at_now, at_before, of_memory, of_age, cond_reads, cell_reads}
+use Rattle.ft_core.specs.checked.Sound.{item_reads, is_memory_of}
 use Rattle.ft_scan.specs.declared.plan.Step.{Step}
 use Rattle.ft_scan.specs.declared.plan.Step.TheVariants as step
 use Rattle.ft_scan.specs.steps.Found.{IsTableFor, IsWhole}

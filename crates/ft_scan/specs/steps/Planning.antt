@@ -2,9 +2,9 @@
 use Rattle.std.specs.Prelude.{ℕ, ◌+◌, ◌≡◌, ◌<◌, ◌⊎◌, true, false, List, [], ◌∷◌, ◌++◌, length, slice_get, slice_set, Option, Some, None, IsTrue, IsFalse}
 use Rattle.ft_core.specs.declared.tables.Tables.{Tables}
 use Rattle.ft_core.specs.declared.tables.Side.{Side}
-use Rattle.ft_core.specs.Kinds.{defined_kinds, section_of, is_of}
-use Rattle.ft_core.specs.Reads.{at_now, of_memory}
-use Rattle.ft_core.specs.Sound.{is_memory_of}
+use Rattle.ft_core.specs.meaning.Kinds.{defined_kinds, section_of, is_of}
+use Rattle.ft_core.specs.meaning.Reads.{at_now, of_memory}
+use Rattle.ft_core.specs.checked.Sound.{is_memory_of}
 use Rattle.ft_scan.specs.declared.homes.Home.{Home}
 use Rattle.ft_scan.specs.declared.homes.Home.TheVariants.{Whole, Row}
 use Rattle.ft_scan.specs.declared.plan.Planned.{Planned}

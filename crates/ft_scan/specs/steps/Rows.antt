@@ -3,10 +3,10 @@ use Rattle.std.specs.Prelude.{ℕ, ℤ, pos, negsuc, Bool, false, IsTrue, List, 
 use Rattle.ft_core.specs.declared.tables.Tables.{Tables}
 use Rattle.ft_core.specs.declared.tables.Var.{Var}
 use Rattle.ft_core.specs.declared.tables.Section.{Section}
-use Rattle.ft_core.specs.Kinds.{Kinds, defined_kinds, place_of}
-use Rattle.ft_mean.specs.Cells.{defined}
-use Rattle.ft_mean.specs.Reading.{IsVar, init_of, reading_of}
-use Rattle.ft_mean.specs.Value.{View}
+use Rattle.ft_core.specs.meaning.Kinds.{Kinds, defined_kinds, place_of}
+use Rattle.ft_mean.specs.meaning.Cells.{defined}
+use Rattle.ft_mean.specs.meaning.Reading.{IsVar, init_of, reading_of}
+use Rattle.ft_mean.specs.meaning.Value.{View}
 
 -- what every name stands for at a row, where the one before it is there or not; a row tells of no memory
 abbrev pub row_view : Tables → Kinds → (row earlier : List ℤ) → (begins : Bool) → View

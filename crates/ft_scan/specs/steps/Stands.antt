@@ -3,10 +3,10 @@ use Rattle.std.specs.Prelude.{ℕ, ◌≡◌, ℤ, pos, List, map, length, slice
 use Rattle.ft_core.specs.declared.tables.Tables.{Tables}
 use Rattle.ft_core.specs.declared.tables.Var.{Var}
 use Rattle.ft_core.specs.declared.tables.Side.{Side}
-use Rattle.ft_core.specs.Kinds.{Kinds, given_kinds, side_kinds, count_of, place_of, is_of}
-use Rattle.ft_core.specs.Sound.{is_memory_of}
-use Rattle.ft_mean.specs.Fits.{Fits, side_reading}
-use Rattle.ft_mean.specs.Reading.{Scans, IsVar, before}
+use Rattle.ft_core.specs.meaning.Kinds.{Kinds, given_kinds, side_kinds, count_of, place_of, is_of}
+use Rattle.ft_core.specs.checked.Sound.{is_memory_of}
+use Rattle.ft_mean.specs.meaning.Fits.{Fits, side_reading}
+use Rattle.ft_mean.specs.meaning.Reading.{Scans, IsVar, before}
 use Rattle.ft_scan.specs.declared.frame.Frame.{Frame}
 use Rattle.ft_scan.specs.declared.plan.Step.{Step}
 use Rattle.ft_scan.specs.declared.scanner.Scanner.TheInside.{Inside}

@@ -2,7 +2,7 @@
 use Rattle.std.specs.Prelude.{◌≡◌, Bool, ⊤, [], ◌∷◌, ◌++◌}
 use Rattle.ft_core.specs.declared.tables.Memory.{Memory}
 use Rattle.ft_core.specs.declared.tables.Memory.TheVariants.{Held, Hyst}
-use Rattle.ft_mean.specs.Value.{View, truth, value}
+use Rattle.ft_mean.specs.meaning.Value.{View, truth, value}
 use Rattle.ft_memo.specs.Timer.{held_after}
 use Rattle.ft_memo.specs.Band.{hyst_after}
 use Rattle.ft_scan.specs.declared.frame.Running.{Running}

@@ -8,11 +8,11 @@ use Rattle.ft_core.specs.declared.tables.Memory.{Memory}
 use Rattle.ft_core.specs.declared.tables.Memory.TheVariants.{Held, Hyst}
 use Rattle.ft_core.specs.declared.term.Cond.{Cond}
 use Rattle.ft_core.specs.declared.term.Term.{Term}
-use Rattle.ft_core.specs.Kinds.{given_kinds, side_kinds, section_of}
-use Rattle.ft_mean.specs.Cells.{Follows}
-use Rattle.ft_mean.specs.Memory.{at_scan, memory_at, look}
-use Rattle.ft_mean.specs.Reading.{Reading, IsVar, before, begun, scan_before}
-use Rattle.ft_mean.specs.Value.{truth, value}
+use Rattle.ft_core.specs.meaning.Kinds.{given_kinds, side_kinds, section_of}
+use Rattle.ft_mean.specs.meaning.Cells.{Follows}
+use Rattle.ft_mean.specs.meaning.Memory.{at_scan, memory_at, look}
+use Rattle.ft_mean.specs.meaning.Reading.{Reading, IsVar, before, begun, scan_before}
+use Rattle.ft_mean.specs.meaning.Value.{truth, value}
 use Rattle.ft_scan.specs.declared.plan.Step.{Step}
 use Rattle.ft_scan.specs.declared.plan.Step.TheVariants as step
 use Rattle.ft_scan.specs.declared.frame.Frame.{Frame}

@@ -7,9 +7,9 @@ use Rattle.ft_core.specs.declared.tables.Grid.{Grid}
 use Rattle.ft_core.specs.declared.tables.Grid.TheVariants.{Normal, Inverted, Vector}
 use Rattle.ft_core.specs.declared.tables.Section.{Section}
 use Rattle.ft_core.specs.declared.tables.Section.TheVariants as section
-use Rattle.ft_core.specs.Kinds.{monitored, inputs, outputs}
-use Rattle.ft_mean.specs.Reading.{IsVar}
-use Rattle.ft_mean.specs.Proper.{IsProper}
+use Rattle.ft_core.specs.meaning.Kinds.{monitored, inputs, outputs}
+use Rattle.ft_mean.specs.meaning.Reading.{IsVar}
+use Rattle.ft_mean.specs.meaning.Proper.{IsProper}
 
 -- the range has more than 100,000 values
 abbrev pub IsLarge : ℤ × ℤ → Type 0

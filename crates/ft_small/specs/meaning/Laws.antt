@@ -2,7 +2,7 @@
 use Rattle.std.specs.Prelude.{◌≡◌, ℕ, zero, suc, ◌<◌, ℤ, List, [], ◌∷◌}
 use Rattle.ft_base.specs.Interval.{IsWithin}
 use Rattle.ft_core.specs.declared.tables.Tables.{Tables}
-use Rattle.ft_mean.specs.Allowed.{Allowed}
+use Rattle.ft_mean.specs.meaning.Allowed.{Allowed}
 use Rattle.ft_small.specs.meaning.SmallSet.{SpellsSmallSet, bounds_of}
 use Rattle.ft_small.specs.meaning.SetOf.{IsSetOf, Spells}
 use Rattle.ft_small.specs.declared.small_set.SmallSet.{SmallSet}

@@ -3,7 +3,7 @@ use Rattle.std.specs.Prelude.{ℕ, ◌+◌, ◌*◌, ◌-◌, Bool, true, List, 
 use Rattle.ft_lex.specs.declared.token.Token.{Token}
 use Rattle.ft_lex.specs.declared.token.TokenKind.{TokenKind}
 use Rattle.ft_lex.specs.declared.token.TokenKind.TheVariants.{Name, Number, Word, Sign, End, Bad}
-use Rattle.ft_lex.specs.Tokens.{token_text}
+use Rattle.ft_lex.specs.meaning.Tokens.{token_text}
 
 -- a reserved word, a name, the value of a number, a sign, the text's end, or a byte that begins no token
 pub data Lexeme : Type 0 where

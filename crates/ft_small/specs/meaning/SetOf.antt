@@ -16,7 +16,7 @@ use Rattle.ft_core.specs.declared.term.Term.{Term}
 use Rattle.ft_core.specs.declared.term.Term.TheVariants.{Num, Now}
 use Rattle.ft_core.specs.declared.term.Cond.{Cond}
 use Rattle.ft_core.specs.declared.term.Cond.TheVariants as cond
-use Rattle.ft_core.specs.Names.{is_set_name}
+use Rattle.ft_core.specs.checked.Names.{is_set_name}
 use Rattle.ft_small.specs.meaning.SmallSet.{bound_value, bounds_of, names_in, SpellsSmallSet}
 use Rattle.ft_small.specs.declared.small_set.Guard.{Guard}
 use Rattle.ft_small.specs.declared.small_set.Guard.TheVariants.{Always, Compare}

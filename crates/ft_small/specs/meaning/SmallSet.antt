@@ -6,7 +6,7 @@ use Rattle.ft_base.specs.Interval.{IsBounded, IsWithin}
 use Rattle.ft_core.specs.declared.term.Rel.{Rel}
 use Rattle.ft_core.specs.declared.term.Rel.TheVariants as rel
 use Rattle.ft_lex.specs.declared.token.Token.{Token}
-use Rattle.ft_lex.specs.Tokens.{IsTokens}
+use Rattle.ft_lex.specs.meaning.Tokens.{IsTokens}
 use Rattle.ft_small.specs.meaning.Lexeme.{Lexeme, word, name, number, sign, end, is_short, lexeme_of, lexemes_of}
 use Rattle.ft_small.specs.declared.cursor.Refusal.{Refusal}
 use Rattle.ft_small.specs.declared.cursor.Refusal.TheVariants.{Other, NoMemory}

@@ -1,7 +1,7 @@
 -- What the reader of a small set knows of the lexemes that are left.
 use Rattle.std.specs.Prelude.{◌≡◌, ℕ, List, [], ◌∷◌, IsTrue}
 use Rattle.ft_lex.specs.declared.token.Token.{Token}
-use Rattle.ft_lex.specs.Tokens.{LiesIn}
+use Rattle.ft_lex.specs.meaning.Tokens.{LiesIn}
 use Rattle.ft_small.specs.meaning.Lexeme.{Lexeme, is_short, lexeme_of}
 
 -- this lexeme is the first

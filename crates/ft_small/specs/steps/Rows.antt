@@ -3,7 +3,7 @@ use Rattle.std.specs.Prelude.{◌≡◌, ℤ, Bool, true, ◌==◌, ◌&&◌, Li
 use Rattle.std.specs.List.{find}
 use Rattle.std.specs.Option.{option_map, option_and_then}
 use Rattle.ft_base.specs.Interval.{IsWithin}
-use Rattle.ft_mean.specs.Value.{compares}
+use Rattle.ft_mean.specs.meaning.Value.{compares}
 use Rattle.ft_small.specs.meaning.SmallSet.{bound_value}
 use Rattle.ft_small.specs.declared.small_set.Guard.{Guard}
 use Rattle.ft_small.specs.declared.small_set.Guard.TheVariants.{Always, Compare}

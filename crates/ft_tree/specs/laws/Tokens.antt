@@ -5,7 +5,7 @@ use Rattle.ft_lex.specs.declared.token.Token.{Token}
 use Rattle.ft_lex.specs.declared.token.TokenKind.{TokenKind}
 use Rattle.ft_lex.specs.declared.token.TokenKind.TheVariants.{Name, Number, Word, Sign, End}
 use Rattle.ft_base.specs.Digits.{begins_by_digit}
-use Rattle.ft_lex.specs.Tokens.{IsTokens, token_text}
+use Rattle.ft_lex.specs.meaning.Tokens.{IsTokens, token_text}
 use Rattle.ft_base.specs.Names.{begins_by_letter, is_reserved_word}
 use Rattle.ft_tree.specs.declared.tree.Tree.{Tree}
 use Rattle.ft_tree.specs.meaning.Canonical.{canonical, tree_lines}

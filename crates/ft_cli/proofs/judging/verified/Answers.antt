@@ -1,6 +1,6 @@
 use Rattle.std.proofs.Common.{◌≡◌, ◌∙◌, sym, ap, subst, rules, w64, FitsSigned, length, arith}
 use Rattle.std.proofs.lemmas.Int.{ints, to_z-of_z}
-use Rattle.ft_mean.specs.Allowed.{Allowed}
+use Rattle.ft_mean.specs.meaning.Allowed.{Allowed}
 use Rattle.ft_small.specs.meaning.SmallSet.{bound_value}
 use Rattle.ft_small.specs.meaning.Laws.{steady}
 use Rattle.ft_cli.proofs.judging.verified.Goals as goal

@@ -1,6 +1,6 @@
 use Rattle.std.proofs.Common.{[], ◌∷◌, rules, subst, sym, w64, FitsSigned}
 use Rattle.std.proofs.lemmas.Int.{to_z-of_z}
-use Rattle.ft_mean.specs.Refines.{FirstDiffers}
+use Rattle.ft_mean.specs.meaning.Refines.{FirstDiffers}
 use Rattle.ft_cli.proofs.judging.without_difference.Goals as goal
 
 pub refuted-requires-clause-differs : goal.refuted-requires-clause-differs

@@ -1,6 +1,6 @@
 use Rattle.std.proofs.Common.{◌≡◌, map, filter, take}
 use Rattle.ft_core.specs.declared.tables.VarKind.TheVariants.{Mon}
-use Rattle.ft_core.specs.Kinds.{same_kind}
+use Rattle.ft_core.specs.meaning.Kinds.{same_kind}
 use Rattle.ft_cli.proofs.rendering.monitored_names.Given as goal
 
 abbrev pub invariant-loop-variable : goal.invariant-loop-variable

@@ -1,6 +1,6 @@
 use Rattle.std.proofs.Common.{length, subst}
 use Rattle.ft_core.specs.declared.ordering.OrderFault.{OrderFault}
-use Rattle.ft_core.specs.Order.{IsCause}
+use Rattle.ft_core.specs.meaning.Order.{IsCause}
 use Rattle.ft_core.proofs.ItemLemmas.{are-items, no-circle, of-lent, scan-order}
 use Rattle.ft_core.proofs.items.scan_order.Goals as goal
 

@@ -1,5 +1,5 @@
 use Rattle.std.proofs.Common.{take}
-use Rattle.ft_core.specs.Walk.{Finishes}
+use Rattle.ft_core.specs.walk.Walk.{Finishes}
 use Rattle.ft_core.proofs.walk.finish.Given as goal
 
 -- the items before this one are in the order

@@ -1,5 +1,5 @@
 use Rattle.std.proofs.Common.{length}
-use Rattle.ft_core.specs.Walk.{Joins}
+use Rattle.ft_core.specs.walk.Walk.{Joins}
 use Rattle.ft_core.proofs.walk.join.Given as goal
 
 abbrev pub invariant-components : goal.invariant-components

@@ -1,4 +1,4 @@
-use Rattle.ft_core.specs.Walk.{IsLeast}
+use Rattle.ft_core.specs.walk.Walk.{IsLeast}
 use Rattle.ft_core.proofs.walk.least_of.Given as goal
 
 abbrev pub invariant-items : goal.invariant-items

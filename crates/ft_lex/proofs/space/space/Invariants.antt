@@ -1,5 +1,5 @@
 use Rattle.std.proofs.Common.{◌≡◌, ◌+◌, drop}
-use Rattle.ft_lex.specs.Reading.{space_from, space_len}
+use Rattle.ft_lex.specs.lexing.Lexing.{space_from, space_len}
 use Rattle.ft_lex.proofs.space.space.Given as goal
 
 abbrev pub invariant-loop-i : goal.invariant-loop-i

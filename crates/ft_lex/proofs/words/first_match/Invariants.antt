@@ -1,5 +1,5 @@
 use Rattle.std.proofs.Common.{◌≡◌, drop}
-use Rattle.ft_lex.specs.Reading.{first_len}
+use Rattle.ft_lex.specs.lexing.Lexing.{first_len}
 use Rattle.ft_lex.proofs.words.first_match.Given as goal
 
 -- no text before this one begins the bytes

@@ -2,8 +2,8 @@ use Rattle.std.proofs.Common.{◌≡◌, ◌∙◌, sym, arith, ◌&&◌, FitsSi
 use Rattle.std.specs.List.{list_any, zip}
 use Rattle.std.specs.Ordering.{int_eq}
 use Rattle.std.proofs.lemmas.Int.{to_z-of_z}
-use Rattle.ft_core.specs.Size.{is_sized_term, is_sized}
-use Rattle.ft_mean.specs.Value.{value, truth}
+use Rattle.ft_core.specs.checked.Size.{is_sized_term, is_sized}
+use Rattle.ft_mean.specs.meaning.Value.{value, truth}
 use Rattle.ft_mean.proofs.SafeLemmas.{safe_by}
 use Rattle.ft_mean.proofs.Passes.{all_pass}
 use Rattle.ft_mean.proofs.RecallLemmas.{pair_next, pair_at, pair_end}

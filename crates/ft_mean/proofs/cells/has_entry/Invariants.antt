@@ -1,7 +1,7 @@
 use Rattle.std.proofs.Common.{◌≡◌, false, ◌&&◌, take}
 use Rattle.std.specs.List.{list_any, zip}
 use Rattle.std.specs.Ordering.{int_eq}
-use Rattle.ft_mean.specs.Value.{value, truth}
+use Rattle.ft_mean.specs.meaning.Value.{value, truth}
 use Rattle.ft_mean.proofs.cells.has_entry.Given as goal
 
 abbrev pub invariant-loop-at : goal.invariant-loop-at

@@ -2,8 +2,8 @@ use Rattle.std.proofs.Common.{◌≡◌, ◌∙◌, sym, ap, subst, true, false,
 use Rattle.std.specs.List.{list_all, list_any, zip}
 use Rattle.std.proofs.lemmas.Int.{to_z-of_z}
 use Rattle.ft_core.specs.declared.term.Cond.{Cond}
-use Rattle.ft_core.specs.Size.{is_sized}
-use Rattle.ft_mean.specs.Seen.{row_gives}
+use Rattle.ft_core.specs.checked.Size.{is_sized}
+use Rattle.ft_mean.specs.judge.Seen.{row_gives}
 use Rattle.ft_mean.proofs.SafeLemmas.{safe_by}
 use Rattle.ft_mean.proofs.Passes.{all_pass}
 use Rattle.ft_mean.proofs.RecallLemmas.{pair_next, pair_at, pair_end}

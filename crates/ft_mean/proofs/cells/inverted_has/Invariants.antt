@@ -1,6 +1,6 @@
 use Rattle.std.proofs.Common.{◌≡◌, false, take}
 use Rattle.std.specs.List.{list_any, zip}
-use Rattle.ft_mean.specs.Seen.{row_gives}
+use Rattle.ft_mean.specs.judge.Seen.{row_gives}
 use Rattle.ft_mean.proofs.cells.inverted_has.Given as goal
 
 abbrev pub invariant-loop-at : goal.invariant-loop-at

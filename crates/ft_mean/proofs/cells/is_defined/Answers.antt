@@ -2,9 +2,9 @@ use Rattle.std.proofs.Common.{◌∙◌, sym, subst, ◌&&◌, ◌≤◌, length
 use Rattle.std.specs.List.{Contains}
 use Rattle.std.proofs.lemmas.Int.{to_z-of_z}
 use Rattle.ft_core.specs.declared.tables.Table.{Table}
-use Rattle.ft_core.specs.Grids.{is_section}
-use Rattle.ft_core.specs.Size.{is_sized_grid}
-use Rattle.ft_mean.specs.Seen.{grid_gives}
+use Rattle.ft_core.specs.meaning.Grids.{is_section}
+use Rattle.ft_core.specs.checked.Size.{is_sized_grid}
+use Rattle.ft_mean.specs.judge.Seen.{grid_gives}
 use Rattle.ft_mean.proofs.SafeLemmas.{safe_by}
 use Rattle.ft_mean.proofs.Passes.{all_pass}
 use Rattle.ft_mean.proofs.RecallLemmas.{any_in, any_end}

@@ -1,7 +1,7 @@
 use Rattle.std.proofs.Common.{◌≡◌, false, ◌&&◌, take}
 use Rattle.std.specs.List.{list_any}
-use Rattle.ft_core.specs.Grids.{is_section}
-use Rattle.ft_mean.specs.Seen.{grid_gives}
+use Rattle.ft_core.specs.meaning.Grids.{is_section}
+use Rattle.ft_mean.specs.judge.Seen.{grid_gives}
 use Rattle.ft_mean.proofs.cells.is_defined.Given as goal
 
 abbrev pub invariant-loop-table : goal.invariant-loop-table

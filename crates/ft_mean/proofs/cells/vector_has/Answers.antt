@@ -4,8 +4,8 @@ use Rattle.std.proofs.lemmas.List.{get_or_default}
 use Rattle.std.specs.List.{list_all, list_any, zip}
 use Rattle.std.proofs.lemmas.Int.{to_z-of_z}
 use Rattle.ft_core.specs.declared.term.Term.{Term}
-use Rattle.ft_core.specs.Size.{is_sized_term}
-use Rattle.ft_mean.specs.Seen.{gives_in}
+use Rattle.ft_core.specs.checked.Size.{is_sized_term}
+use Rattle.ft_mean.specs.judge.Seen.{gives_in}
 use Rattle.ft_mean.proofs.SafeLemmas.{safe_by}
 use Rattle.ft_mean.proofs.Passes.{all_pass}
 use Rattle.ft_mean.proofs.RecallLemmas.{pair_next, pair_at, pair_end}

@@ -1,7 +1,7 @@
 use Rattle.std.proofs.Common.{◌≡◌, false, ◌&&◌, take}
 use Rattle.std.specs.Prelude.{◌==◌}
 use Rattle.std.specs.List.{list_any, zip}
-use Rattle.ft_mean.specs.Seen.{gives_in}
+use Rattle.ft_mean.specs.judge.Seen.{gives_in}
 use Rattle.ft_mean.proofs.cells.vector_has.Given as goal
 
 abbrev pub invariant-loop-at : goal.invariant-loop-at

@@ -1,9 +1,9 @@
 use Rattle.std.proofs.Common.{◌∙◌, rules, sym, subst, ap, FitsSigned, w64}
 use Rattle.std.proofs.lemmas.Int.{to_z-of_z}
 use Rattle.ft_core.specs.declared.term.Cond.{the_lemmas}
-use Rattle.ft_mean.specs.Value.{truth}
+use Rattle.ft_mean.specs.meaning.Value.{truth}
 use Rattle.ft_mean.proofs.Agree.{truth-Yes, truth-No, truth-Memory}
-use Rattle.ft_mean.specs.Safe.{IsSafeCond}
+use Rattle.ft_mean.specs.judge.Safe.{IsSafeCond}
 use Rattle.ft_mean.proofs.SafeLemmas.{safe_left, safe_right, safe_not, safe_and_left, safe_and_right, safe_or_left, safe_or_right, compare_truth, not_truth, and_truth, and_false, or_truth, or_true}
 use Rattle.ft_mean.proofs.evaluating.+truth_of.Goals as goal
 

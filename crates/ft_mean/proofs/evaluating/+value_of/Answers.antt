@@ -1,9 +1,9 @@
 use Rattle.std.proofs.Common.{◌∙◌, rules, sym, subst, ap, FitsSigned, w64}
 use Rattle.std.proofs.lemmas.Int.{to_z-of_z}
 use Rattle.ft_core.specs.declared.term.Term.{the_lemmas}
-use Rattle.ft_mean.specs.Value.{value}
+use Rattle.ft_mean.specs.meaning.Value.{value}
 use Rattle.ft_mean.proofs.Agree.{value-Num, value-Now, value-Prev, value-Age}
-use Rattle.ft_mean.specs.Safe.{IsSafe}
+use Rattle.ft_mean.specs.judge.Safe.{IsSafe}
 use Rattle.ft_mean.proofs.SafeLemmas.{safe_neg, safe_add_left, safe_add_right, safe_sub_left, safe_sub_right, safe_times, safe_div, safe_divisor, part_small, product_small, neg_value, add_value, sub_value, times_value, div_value}
 use Rattle.ft_mean.proofs.evaluating.+value_of.Goals as goal
 

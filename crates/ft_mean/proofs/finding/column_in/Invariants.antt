@@ -1,6 +1,6 @@
 use Rattle.std.proofs.Common.{◌≡◌, drop}
 use Rattle.std.specs.List.{zip}
-use Rattle.ft_mean.specs.FirstCell.{first_answer, first_column, place_if}
+use Rattle.ft_mean.specs.judge.FirstCell.{first_answer, first_column, place_if}
 use Rattle.ft_mean.proofs.finding.column_in.Given as goal
 
 abbrev pub invariant-loop-at : goal.invariant-loop-at

@@ -1,7 +1,7 @@
 use Rattle.std.proofs.Common.{◌≡◌, subst, refl, arith, List, Some, None}
 use Rattle.std.proofs.lemmas.Option.{slice_get_read}
 use Rattle.ft_core.specs.declared.term.Term.{Term}
-use Rattle.ft_mean.specs.FirstCell.{headed_column}
+use Rattle.ft_mean.specs.judge.FirstCell.{headed_column}
 use Rattle.ft_mean.proofs.FirstCell.{row_first, row_next, row_none}
 use Rattle.ft_mean.proofs.finding.first_of_normal.Goals as goal
 

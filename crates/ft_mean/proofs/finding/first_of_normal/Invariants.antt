@@ -1,6 +1,6 @@
 use Rattle.std.proofs.Common.{◌≡◌, drop}
 use Rattle.std.specs.List.{zip}
-use Rattle.ft_mean.specs.FirstCell.{first_answer, first_row, headed_column, in_row}
+use Rattle.ft_mean.specs.judge.FirstCell.{first_answer, first_row, headed_column, in_row}
 use Rattle.ft_mean.proofs.finding.first_of_normal.Given as goal
 
 abbrev pub invariant-loop-at : goal.invariant-loop-at

@@ -2,7 +2,7 @@ use Rattle.std.proofs.Common.{◌≡◌, subst, refl, arith, List, Some, None}
 use Rattle.std.specs.Prelude.{slice_index_or}
 use Rattle.std.proofs.lemmas.Option.{slice_get_read, slice_get-get_or}
 use Rattle.ft_core.specs.declared.term.Term.{Term}
-use Rattle.ft_mean.specs.FirstCell.{target_column}
+use Rattle.ft_mean.specs.judge.FirstCell.{target_column}
 use Rattle.ft_mean.proofs.FirstCell.{row_first, row_next, row_none}
 use Rattle.ft_mean.proofs.finding.first_of_vector.Goals as goal
 

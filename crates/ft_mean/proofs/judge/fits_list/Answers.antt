@@ -2,12 +2,12 @@ use Rattle.std.proofs.Common.{◌∙◌, sym, ap, subst, ℕ, ◌+◌, length, t
 use Rattle.std.specs.Prelude.{◌↔◌, IsTrue}
 use Rattle.std.specs.List.{list_all}
 use Rattle.ft_core.specs.declared.tables.Table.{Table}
-use Rattle.ft_core.specs.Size.{is_sized_memory, is_sized_grid}
+use Rattle.ft_core.specs.checked.Size.{is_sized_memory, is_sized_grid}
 use Rattle.ft_mean.specs.declared.seen.Seen.{Seen}
-use Rattle.ft_mean.specs.Fits.{Fits, side_reading}
-use Rattle.ft_mean.specs.Safe.{AreSafeMemories, AreSafeTables}
-use Rattle.ft_mean.specs.Part.{scans_of, follows_by}
-use Rattle.ft_mean.specs.Seen.{view_at, after_rounds}
+use Rattle.ft_mean.specs.meaning.Fits.{Fits, side_reading}
+use Rattle.ft_mean.specs.judge.Safe.{AreSafeMemories, AreSafeTables}
+use Rattle.ft_mean.specs.judge.Scope.{scans_of, follows_by}
+use Rattle.ft_mean.specs.judge.Seen.{view_at, after_rounds}
 use Rattle.ft_mean.proofs.RecallLemmas.{safe_after}
 use Rattle.ft_mean.proofs.JudgeLemmas.{judged, lists_from, trace_is, safe_list}
 use Rattle.ft_mean.proofs.judge.fits_list.Goals as goal

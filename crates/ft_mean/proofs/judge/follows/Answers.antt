@@ -1,5 +1,5 @@
 use Rattle.std.proofs.Common.{sym, arith, length}
-use Rattle.ft_mean.specs.Part.{at_all, is_right}
+use Rattle.ft_mean.specs.judge.Scope.{at_all, is_right}
 use Rattle.ft_mean.proofs.RecallLemmas.{through_next, all_not}
 use Rattle.ft_mean.proofs.judge.follows.Goals as goal
 

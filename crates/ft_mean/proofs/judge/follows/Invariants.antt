@@ -1,5 +1,5 @@
 use Rattle.std.proofs.Common.{◌≡◌, true}
-use Rattle.ft_mean.specs.Part.{is_right, at_all, through}
+use Rattle.ft_mean.specs.judge.Scope.{is_right, at_all, through}
 use Rattle.ft_mean.proofs.judge.follows.Given as goal
 
 abbrev pub invariant-loop-scan : goal.invariant-loop-scan

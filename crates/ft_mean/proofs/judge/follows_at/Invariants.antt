@@ -1,5 +1,5 @@
 use Rattle.std.proofs.Common.{◌≡◌, true}
-use Rattle.ft_mean.specs.Part.{is_right, through}
+use Rattle.ft_mean.specs.judge.Scope.{is_right, through}
 use Rattle.ft_mean.proofs.judge.follows_at.Given as goal
 
 abbrev pub invariant-loop-variable : goal.invariant-loop-variable

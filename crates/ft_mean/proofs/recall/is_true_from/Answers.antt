@@ -1,6 +1,6 @@
 use Rattle.std.proofs.Common.{sym, arith, suc, ◌-◌}
-use Rattle.ft_mean.specs.Seen.{view_at}
-use Rattle.ft_mean.specs.Value.{truth}
+use Rattle.ft_mean.specs.judge.Seen.{view_at}
+use Rattle.ft_mean.specs.meaning.Value.{truth}
 use Rattle.ft_mean.proofs.RecallLemmas.{all_next, all_not}
 use Rattle.ft_mean.proofs.recall.is_true_from.Goals as goal
 

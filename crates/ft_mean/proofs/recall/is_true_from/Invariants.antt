@@ -1,7 +1,7 @@
 use Rattle.std.proofs.Common.{◌≡◌, ◌-◌, true}
 use Rattle.std.specs.List.{list_all, range_with_len}
-use Rattle.ft_mean.specs.Seen.{view_at}
-use Rattle.ft_mean.specs.Value.{truth}
+use Rattle.ft_mean.specs.judge.Seen.{view_at}
+use Rattle.ft_mean.specs.meaning.Value.{truth}
 use Rattle.ft_mean.proofs.recall.is_true_from.Given as goal
 
 abbrev pub invariant-loop-scan : goal.invariant-loop-scan

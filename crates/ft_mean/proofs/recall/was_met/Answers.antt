@@ -1,8 +1,8 @@
 use Rattle.std.proofs.Common.{◌∙◌, sym, ap, arith, FitsSigned, w64, rules}
 use Rattle.std.specs.Prelude.{int_le}
 use Rattle.std.proofs.lemmas.Int.{to_z-of_z}
-use Rattle.ft_mean.specs.Seen.{view_at}
-use Rattle.ft_mean.specs.Value.{value}
+use Rattle.ft_mean.specs.judge.Seen.{view_at}
+use Rattle.ft_mean.specs.meaning.Value.{value}
 use Rattle.ft_mean.proofs.RecallLemmas.{band_up, band_down, band_between}
 use Rattle.ft_mean.proofs.recall.was_met.Goals as goal
 

@@ -1,9 +1,9 @@
 use Rattle.std.proofs.Common.{◌≡◌, ◌-◌, suc}
 use Rattle.std.specs.Prelude.{reverse}
 use Rattle.std.specs.List.{range_with_len}
-use Rattle.ft_mean.specs.Past.{hyst}
-use Rattle.ft_mean.specs.Seen.{view_at}
-use Rattle.ft_mean.specs.Value.{value}
+use Rattle.ft_mean.specs.meaning.Past.{hyst}
+use Rattle.ft_mean.specs.judge.Seen.{view_at}
+use Rattle.ft_mean.specs.meaning.Value.{value}
 use Rattle.ft_mean.proofs.PastLemmas.{band}
 use Rattle.ft_mean.proofs.recall.was_met.Given as goal
 

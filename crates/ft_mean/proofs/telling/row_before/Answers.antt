@@ -1,13 +1,13 @@
 use Rattle.std.proofs.Common.{FitsSigned, w64, rules}
 use Rattle.std.proofs.lemmas.Int.{to_z-of_z}
-use Rattle.ft_mean.specs.Part.{kinds_of}
-use Rattle.ft_mean.specs.Reading.{reading_of, before}
+use Rattle.ft_mean.specs.judge.Scope.{kinds_of}
+use Rattle.ft_mean.specs.meaning.Reading.{reading_of, before}
 use Rattle.ft_mean.proofs.RecallLemmas.{made_next}
 use Rattle.ft_mean.proofs.telling.row_before.Goals as goal
 
 pub loop-variable-preserved : goal.loop-variable-preserved
 loop-variable-preserved c =
-    let fits : FitsSigned w64 c.told_before.result = search rules in
+    let fits : FitsSigned w64 c.recorded_before.result = search rules in
     let pushed = simp to_z-of_z at c.in_ok-push.ensures.ok in
-    made_next (before c.args.tables.now (reading_of c.args.tables.now (kinds_of c.args.part) c.args.scans.now) c.args.scan) c.loop-variable.row c.push.new.self c.loop-variable.variable c.told_before.result
-    c.loop-variable.invariant c.told_before.ensures pushed
+    made_next (before c.args.tables.now (reading_of c.args.tables.now (kinds_of c.args.scope) c.args.scans.now) c.args.scan) c.loop-variable.row c.push.new.self c.loop-variable.variable c.recorded_before.result
+    c.loop-variable.invariant c.recorded_before.ensures pushed

@@ -5,12 +5,12 @@ use Rattle.ft_core.specs.declared.tables.Section.TheVariants as section
 use Rattle.ft_core.specs.declared.tables.Side.{Side}
 use Rattle.ft_core.specs.declared.tables.Side.TheVariants as side
 use Rattle.ft_core.specs.declared.tables.Tables.{Tables}
-use Rattle.ft_core.specs.Kinds.{outputs, side_kinds}
-use Rattle.ft_mean.specs.Fits.{Maps}
-use Rattle.ft_mean.specs.Reading.{IsListOf, Scans}
-use Rattle.ft_mean.specs.Refines.{SameAt}
-use Rattle.ft_replay.specs.Differing.{DiffersAt}
-use Rattle.ft_replay.specs.Outputs.{AreOutputs}
+use Rattle.ft_core.specs.meaning.Kinds.{outputs, side_kinds}
+use Rattle.ft_mean.specs.meaning.Fits.{Maps}
+use Rattle.ft_mean.specs.meaning.Reading.{IsListOf, Scans}
+use Rattle.ft_mean.specs.meaning.Refines.{SameAt}
+use Rattle.ft_replay.specs.scans.Differing.{DiffersAt}
+use Rattle.ft_replay.specs.scans.Outputs.{AreOutputs}
 use Rattle.ft_replay.proofs.StepLemmas.{outputs-listed}
 use Rattle.ft_replay.proofs.replayer.run_scan.Goals as goal
 

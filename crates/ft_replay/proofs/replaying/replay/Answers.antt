@@ -1,7 +1,7 @@
 use Rattle.std.proofs.Common.{◌∙◌, sym, subst}
 use Rattle.ft_core.specs.declared.tables.Tables.{Tables}
-use Rattle.ft_mean.specs.Reading.{Scans}
-use Rattle.ft_mean.specs.Refines.{FirstDiffers}
+use Rattle.ft_mean.specs.meaning.Reading.{Scans}
+use Rattle.ft_mean.specs.meaning.Refines.{FirstDiffers}
 use Rattle.ft_replay.proofs.replaying.replay.Goals as goal
 
 pub returns-clause-agree : goal.returns-clause-agree

@@ -3,7 +3,7 @@ use Rattle.std.specs.Prelude.{IsTrue, None}
 use Rattle.std.specs.List.{last_or}
 use Rattle.std.proofs.lemmas.List.{get_or-take, length-take-le}
 use Rattle.ft_core.specs.declared.tables.Tables.{Tables}
-use Rattle.ft_mean.specs.Reading.{Scans}
+use Rattle.ft_mean.specs.meaning.Reading.{Scans}
 use Rattle.ft_scan.specs.meaning.Allowing.{nat_after}
 use Rattle.ft_replay.proofs.FirstLemmas.{nat-at-end}
 use Rattle.ft_replay.proofs.replaying.replay_all.Goals as goal

@@ -1,6 +1,6 @@
 use Rattle.std.proofs.Common.{◌≡◌, length}
-use Rattle.ft_core.specs.Kinds.{place_of}
-use Rattle.ft_replay.specs.Rows.{class_of}
+use Rattle.ft_core.specs.meaning.Kinds.{place_of}
+use Rattle.ft_replay.specs.scans.Rows.{class_of}
 use Rattle.ft_replay.proofs.rows.zeros.Given as goal
 
 abbrev pub invariant-loop-variable : goal.invariant-loop-variable

@@ -1,6 +1,6 @@
 use Rattle.std.proofs.Common.{◌≡◌, true, take}
 use Rattle.std.specs.List.{list_all}
-use Rattle.ft_mean.specs.Value.{truth}
+use Rattle.ft_mean.specs.meaning.Value.{truth}
 use Rattle.ft_scan.proofs.allowing.all_hold.Given as goal
 
 abbrev pub invariant-loop-cond : goal.invariant-loop-cond

@@ -1,7 +1,7 @@
 use Rattle.std.proofs.Common.{sym, subst, false}
-use Rattle.ft_core.specs.Kinds.{monitored}
+use Rattle.ft_core.specs.meaning.Kinds.{monitored}
 use Rattle.ft_scan.specs.steps.Rows.{row_view}
-use Rattle.ft_mean.specs.Safe.{AreSafeConds}
+use Rattle.ft_mean.specs.judge.Safe.{AreSafeConds}
 use Rattle.ft_scan.proofs.RowLemmas.{safe_step, safe_always}
 use Rattle.ft_scan.proofs.allowing.may_follow.Goals as goal
 

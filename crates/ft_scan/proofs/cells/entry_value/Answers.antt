@@ -1,6 +1,6 @@
 use Rattle.std.proofs.Common.{◌∙◌, ap, rules, FitsSigned, w64}
 use Rattle.std.proofs.lemmas.Int.{to_z-of_z}
-use Rattle.ft_mean.specs.Value.{value}
+use Rattle.ft_mean.specs.meaning.Value.{value}
 use Rattle.ft_scan.proofs.FrameLemmas.{entry_safe, same_entry}
 use Rattle.ft_scan.proofs.cells.entry_value.Goals as goal
 

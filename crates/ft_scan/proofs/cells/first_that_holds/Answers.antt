@@ -1,6 +1,6 @@
 use Rattle.std.proofs.Common.{◌∙◌, sym, ap, refl, arith, true≢false}
 use Rattle.std.proofs.lemmas.Option.{slice_get_within, same_Some, slice_get_read}
-use Rattle.ft_mean.specs.Value.{truth}
+use Rattle.ft_mean.specs.meaning.Value.{truth}
 use Rattle.ft_scan.specs.steps.Found.{IsTrueAt}
 use Rattle.ft_scan.proofs.FoundLemmas.{one_more}
 use Rattle.ft_scan.proofs.cells.first_that_holds.Goals as goal

@@ -2,7 +2,7 @@ use Rattle.std.proofs.Common.{◌≡◌, ◌∙◌, sym, subst, refl, rules, ari
 use Rattle.std.proofs.lemmas.Int.{to_z-of_z}
 use Rattle.std.proofs.lemmas.Option.{same_Some, slice_get_read}
 use Rattle.ft_core.specs.declared.term.Cond.{Cond}
-use Rattle.ft_mean.specs.Value.{truth}
+use Rattle.ft_mean.specs.meaning.Value.{truth}
 use Rattle.ft_scan.specs.steps.Found.{IsInRow}
 use Rattle.ft_scan.proofs.FoundLemmas.{normal_none, normal_gives, one_more}
 use Rattle.ft_scan.proofs.cells.in_normal.Goals as goal

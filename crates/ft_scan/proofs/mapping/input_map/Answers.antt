@@ -1,6 +1,6 @@
 use Rattle.std.proofs.Common.{◌∙◌, refl, [], true, true≢false}
 use Rattle.ft_core.specs.declared.tables.Section.TheVariants.{In}
-use Rattle.ft_core.specs.Kinds.{monitored}
+use Rattle.ft_core.specs.meaning.Kinds.{monitored}
 use Rattle.ft_scan.proofs.RowLemmas.{row_keeps}
 use Rattle.ft_scan.proofs.MapLemmas.{has_values, image_maps}
 use Rattle.ft_scan.proofs.mapping.input_map.Goals as goal

@@ -1,6 +1,6 @@
 use Rattle.std.proofs.Common.{◌∙◌, ap, subst, ◌<◌, ◌≤◌, List, length, slice_index_or}
 use Rattle.ft_core.specs.declared.tables.Table.{Table}
-use Rattle.ft_core.specs.Grids.{is_for}
+use Rattle.ft_core.specs.meaning.Grids.{is_for}
 use Rattle.ft_scan.specs.steps.Mapping.{IsFilled}
 use Rattle.ft_scan.proofs.FillLemmas.{more_filled, whole_filled, all_filled}
 use Rattle.ft_scan.proofs.mapping.map_row.Goals as goal

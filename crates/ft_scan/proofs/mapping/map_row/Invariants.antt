@@ -1,6 +1,6 @@
 use Rattle.std.proofs.Common.{take}
 use Rattle.std.specs.List.{list_any}
-use Rattle.ft_core.specs.Grids.{is_for}
+use Rattle.ft_core.specs.meaning.Grids.{is_for}
 use Rattle.ft_scan.specs.steps.Mapping.{IsFilled}
 use Rattle.ft_scan.proofs.mapping.map_row.Given as goal
 

@@ -2,7 +2,7 @@ use Rattle.std.proofs.Common.{◌∙◌, sym, subst, rules, arith, slice_index_o
 use Rattle.std.specs.Prelude.{IsTrue, ◌==◌}
 use Rattle.std.proofs.lemmas.Int.{to_z-of_z}
 use Rattle.std.proofs.lemmas.Option.{slice_get-get_or}
-use Rattle.ft_mean.specs.Cells.{defined}
+use Rattle.ft_mean.specs.meaning.Cells.{defined}
 use Rattle.ft_scan.proofs.FillLemmas.{one_filled, more_filled, whole_filled}
 use Rattle.ft_scan.proofs.ImageLemmas.{row_finds, rows_none}
 use Rattle.ft_scan.proofs.TableLemmas.{grid_safe}

@@ -1,7 +1,7 @@
 use Rattle.std.proofs.Common.{◌≡◌, ◌∙◌, sym, ap, subst, arith, true, slice_set, FitsSigned, w64}
 use Rattle.std.proofs.lemmas.Bool.{cond-true, cond-false}
 use Rattle.std.proofs.lemmas.Int.{to_z-of_z}
-use Rattle.ft_core.specs.Kinds.{Kinds, defined_kinds, is_of, place_of}
+use Rattle.ft_core.specs.meaning.Kinds.{Kinds, defined_kinds, is_of, place_of}
 use Rattle.ft_scan.proofs.ListedLemmas.{of_var}
 use Rattle.ft_scan.proofs.PlaceLemmas.{got, same_image}
 use Rattle.ft_scan.proofs.mapping.put_value.Goals as goal

@@ -1,9 +1,9 @@
 use Rattle.std.proofs.Common.{◌≡◌, ◌∙◌, sym, ap, subst, refl, arith, ◌+◌, Some, slice_get, length}
 use Rattle.std.proofs.lemmas.Option.{slice_get_read}
-use Rattle.ft_mean.specs.Part.{kinds_of}
+use Rattle.ft_mean.specs.judge.Scope.{kinds_of}
 use Rattle.ft_scan.proofs.ListedLemmas.{AreListed, listed_more, listed_other, listed_all}
-use Rattle.ft_scan.proofs.places.part_places.Goals as goal
-use Rattle.ft_scan.proofs.places.part_places.Goals.{then-has+in_ok-push, else-has}
+use Rattle.ft_scan.proofs.places.scope_places.Goals as goal
+use Rattle.ft_scan.proofs.places.scope_places.Goals.{then-has+in_ok-push, else-has}
 
 pub loop-place-preserved : goal.loop-place-preserved
 loop-place-preserved c =

@@ -1,4 +1,4 @@
-use Rattle.ft_core.specs.Kinds.{section_of}
+use Rattle.ft_core.specs.meaning.Kinds.{section_of}
 use Rattle.ft_scan.proofs.HomeLemmas.{has-home}
 use Rattle.ft_scan.proofs.plan.home_of.Goals as goal
 

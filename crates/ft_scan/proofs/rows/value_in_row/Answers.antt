@@ -2,7 +2,7 @@ use Rattle.std.proofs.Common.{◌≡◌, ◌∙◌, sym, ap, rules, arith, List,
 use Rattle.std.proofs.lemmas.Int.{to_z-of_z}
 use Rattle.std.proofs.lemmas.Option.{slice_get_past}
 use Rattle.ft_core.specs.declared.tables.Var.{Var}
-use Rattle.ft_core.specs.Kinds.{of_kind}
+use Rattle.ft_core.specs.meaning.Kinds.{of_kind}
 use Rattle.ft_scan.proofs.PlaceLemmas.{got, kinds_compare, told_value, told_init}
 use Rattle.ft_scan.proofs.ListedLemmas.{of_var}
 use Rattle.ft_scan.proofs.RowLemmas.{no_reading}

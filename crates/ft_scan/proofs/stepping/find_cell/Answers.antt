@@ -1,6 +1,6 @@
 use Rattle.std.proofs.Common.{arith}
 use Rattle.std.proofs.lemmas.Option.{slice_get_within}
-use Rattle.ft_core.specs.Kinds.{defined_kinds, section_of}
+use Rattle.ft_core.specs.meaning.Kinds.{defined_kinds, section_of}
 use Rattle.ft_scan.proofs.FrameLemmas.{frame_keeps, of_kinds}
 use Rattle.ft_scan.proofs.stepping.find_cell.Goals as goal
 

@@ -1,5 +1,5 @@
 use Rattle.std.proofs.Common.{ℕ}
-use Rattle.ft_mean.specs.Reading.{Reading}
+use Rattle.ft_mean.specs.meaning.Reading.{Reading}
 use Rattle.ft_scan.specs.steps.Told.{IsScan, IsTold}
 use Rattle.ft_scan.proofs.stepping.run_steps.Given as goal
 

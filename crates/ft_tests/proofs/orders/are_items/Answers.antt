@@ -1,7 +1,7 @@
 use Rattle.std.proofs.Common.{arith, ◌∙◌, ap, sym, subst, refl, inl, inr, ℕ, List, [], length, slice_index_or, Contains}
 use Rattle.std.proofs.lemmas.Bool.{cases_eq}
 use Rattle.std.proofs.lemmas.List.{get_or_default}
-use Rattle.ft_core.specs.Order.{ReadsItem}
+use Rattle.ft_core.specs.meaning.Order.{ReadsItem}
 use Rattle.ft_tests.proofs.OrderLemmas.{reader-is-item}
 use Rattle.ft_tests.proofs.orders.are_items.Goals as goal
 

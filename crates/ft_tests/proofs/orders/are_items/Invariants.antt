@@ -1,5 +1,5 @@
 use Rattle.std.proofs.Common.{◌<◌, ℕ, length}
-use Rattle.ft_core.specs.Order.{ReadsItem}
+use Rattle.ft_core.specs.meaning.Order.{ReadsItem}
 use Rattle.ft_tests.proofs.orders.are_items.Given as goal
 
 -- the rows before this one name items

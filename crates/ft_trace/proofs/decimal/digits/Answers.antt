@@ -1,6 +1,6 @@
 use Rattle.std.proofs.Common.{◌∙◌, sym, refl, arith}
 use Rattle.std.proofs.lemmas.List.{drop_all}
-use Rattle.ft_trace.specs.Decimal.{digits_after}
+use Rattle.ft_trace.specs.meaning.Decimal.{digits_after}
 use Rattle.ft_trace.proofs.Digits.{below-limit, below-power, digits-step, grows, small-at}
 use Rattle.ft_trace.proofs.decimal.digits.Goals as goal
 

@@ -2,8 +2,8 @@ use Rattle.std.proofs.Common.{◌≡◌, ◌∙◌, sym, ap, List, length}
 use Rattle.std.specs.List.{list_all}
 use Rattle.csv.specs.Records.{fields_of}
 use Rattle.ft_core.specs.declared.tables.Var.{Var}
-use Rattle.ft_core.specs.Kinds.{count_of, monitored}
-use Rattle.ft_trace.specs.Row.{is_named}
+use Rattle.ft_core.specs.meaning.Kinds.{count_of, monitored}
+use Rattle.ft_trace.specs.rows.Row.{is_named}
 use Rattle.ft_trace.proofs.HeaderLemmas.{header-by, header-is}
 use Rattle.ft_trace.proofs.row.is_header.Goals as goal
 

@@ -1,7 +1,7 @@
 use Rattle.std.proofs.Common.{◌∙◌, sym, ap, List}
 use Rattle.std.specs.List.{count_by}
 use Rattle.ft_core.specs.declared.tables.Var.{Var}
-use Rattle.ft_trace.specs.Row.{is_monitored}
+use Rattle.ft_trace.specs.rows.Row.{is_monitored}
 use Rattle.ft_trace.proofs.PlaceLemmas.{counted}
 use Rattle.ft_trace.proofs.row.width.Goals as goal
 

@@ -1,6 +1,6 @@
 use Rattle.std.proofs.Common.{◌≡◌, [], take}
 use Rattle.csv.specs.Records.{fields_of, partial_of}
-use Rattle.ft_trace.specs.Writing.{fields_by, name_of}
+use Rattle.ft_trace.specs.meaning.Writing.{fields_by, name_of}
 use Rattle.ft_trace.proofs.writing.add_names.Given as goal
 
 abbrev pub invariant-vars : goal.invariant-vars

@@ -1,7 +1,7 @@
 use Rattle.std.proofs.Common.{◌≡◌, ◌++◌, take, flat_map}
 use Rattle.csv.specs.Writing.{default_writer, row_text}
-use Rattle.ft_trace.specs.Writer.{IsWhole, written}
-use Rattle.ft_trace.specs.Writing.{fields_by, scan_field}
+use Rattle.ft_trace.specs.rows.Writer.{IsWhole, written}
+use Rattle.ft_trace.specs.meaning.Writing.{fields_by, scan_field}
 use Rattle.ft_trace.proofs.writing.write_scans.Given as goal
 
 abbrev pub invariant-scans : goal.invariant-scans

@@ -1,7 +1,7 @@
 use Rattle.std.proofs.Common.{◌≡◌, ◌∙◌, [], List, ℕ, ap, subst, ◌++◌, IfOk, rules, flat_map}
 use Rattle.csv.specs.Writing.{default_writer, row_text}
-use Rattle.ft_trace.specs.Writer.{written}
-use Rattle.ft_trace.specs.Writing.{fields_by, name_of, scan_field, trace_text}
+use Rattle.ft_trace.specs.rows.Writer.{written}
+use Rattle.ft_trace.specs.meaning.Writing.{fields_by, name_of, scan_field, trace_text}
 use Rattle.ft_trace.proofs.WritingLemmas.{spelled, written-text}
 use Rattle.ft_trace.proofs.writing.write_trace.Goals as goal
 

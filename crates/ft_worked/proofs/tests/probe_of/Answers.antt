@@ -1,6 +1,6 @@
 use Rattle.std.proofs.Common.{w64}
 use Rattle.std.proofs.lemmas.Int.{to_z-of_z}
-use Rattle.ft_core.specs.Kinds.{inputs}
+use Rattle.ft_core.specs.meaning.Kinds.{inputs}
 use Rattle.ft_worked.proofs.MixerProper.{is_proper}
 use Rattle.ft_worked.proofs.MixerRows.{level, width}
 use Rattle.ft_worked.proofs.tests.probe_of.Goals as goal

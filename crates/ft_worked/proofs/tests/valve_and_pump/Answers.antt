@@ -1,6 +1,6 @@
 use Rattle.std.proofs.Common.{w64}
 use Rattle.std.proofs.lemmas.Int.{to_z-of_z}
-use Rattle.ft_core.specs.Kinds.{controlled}
+use Rattle.ft_core.specs.meaning.Kinds.{controlled}
 use Rattle.ft_worked.proofs.MixerProper.{is_proper}
 use Rattle.ft_worked.proofs.MixerRows.{drive_and_gate, width}
 use Rattle.ft_worked.proofs.tests.valve_and_pump.Goals as goal

@@ -1,5 +1,5 @@
 use Rattle.std.proofs.Common.{◌+◌, ◌-◌, ◌≤◌, length}
-use Rattle.ft_core.specs.Circles.{Searches, AreRead, unseen}
+use Rattle.ft_core.specs.walk.Circles.{Searches, AreRead, unseen}
 use Rattle.ft_core.proofs.circle.Search.find_end.Given as goal
 
 -- what the items before this place read was met

@@ -1,4 +1,4 @@
-use Rattle.ft_core.specs.Circles.{AreFollowed}
+use Rattle.ft_core.specs.walk.Circles.{AreFollowed}
 use Rattle.ft_core.proofs.circle.Search.follow.Given as goal
 
 -- the reads before this one were met

@@ -1,5 +1,5 @@
 use Rattle.std.proofs.Common.{sym, subst, List, ℕ}
-use Rattle.ft_core.specs.Circles.{IsWayBack}
+use Rattle.ft_core.specs.walk.Circles.{IsWayBack}
 use Rattle.ft_core.proofs.CircleLemmas.{back-more, circle-back}
 use Rattle.ft_core.proofs.circle.Search.way.Goals as goal
 

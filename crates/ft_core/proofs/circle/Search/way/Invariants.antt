@@ -1,4 +1,4 @@
-use Rattle.ft_core.specs.Circles.{IsWayBack}
+use Rattle.ft_core.specs.walk.Circles.{IsWayBack}
 use Rattle.ft_core.proofs.circle.Search.way.Given as goal
 
 -- the items up to here lead to the end

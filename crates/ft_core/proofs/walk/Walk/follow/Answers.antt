@@ -2,7 +2,7 @@ use Rattle.std.proofs.Common.{◌∙◌, ap, sym, Some}
 use Rattle.std.proofs.lemmas.Option.{same_Some}
 use Rattle.std.proofs.lemmas.Result.{on_ok_weaker}
 use Rattle.ft_core.specs.declared.walk.Stage.{Stage}
-use Rattle.ft_core.specs.Walk.{IsOpened}
+use Rattle.ft_core.specs.walk.Walk.{IsOpened}
 use Rattle.ft_core.proofs.WalkSteps.{all-lead, opens, joins-up, passes}
 use Rattle.ft_core.proofs.walk.Walk.follow.Goals as goal
 

@@ -1,5 +1,5 @@
 use Rattle.std.proofs.Common.{None, ◌≡◌, ◌<◌, ℕ, []}
-use Rattle.ft_core.specs.Walk.{Walks, IsNew}
+use Rattle.ft_core.specs.walk.Walk.{Walks, IsNew}
 use Rattle.ft_core.proofs.walk.Walk.over.Given as goal
 
 -- no component is open, and no item before this one is new

@@ -1,5 +1,5 @@
 use Rattle.std.proofs.Common.{None}
-use Rattle.ft_core.specs.Walk.{Walks, Advances, left}
+use Rattle.ft_core.specs.walk.Walk.{Walks, Advances, left}
 use Rattle.ft_core.proofs.walk.Walk.run.Given as goal
 
 abbrev pub invariant-steps : goal.invariant-steps

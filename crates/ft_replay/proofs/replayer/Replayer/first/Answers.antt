@@ -1,7 +1,7 @@
 use Rattle.std.proofs.Common.{ℕ, subst}
 use Rattle.std.specs.Prelude.{IfSome, IfNone}
-use Rattle.ft_mean.specs.Refines.{FirstDiffers}
-use Rattle.ft_replay.specs.Replaying.{Replaying}
+use Rattle.ft_mean.specs.meaning.Refines.{FirstDiffers}
+use Rattle.ft_replay.specs.meaning.Replaying.{Replaying}
 use Rattle.ft_replay.proofs.DifferLemmas.{first-is, none-is}
 use Rattle.ft_replay.proofs.replayer.Replayer.first.Goals as goal
 

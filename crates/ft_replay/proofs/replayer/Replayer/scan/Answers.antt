@@ -3,9 +3,9 @@ use Rattle.std.specs.Prelude.{IsTrue, None}
 use Rattle.std.specs.List.{last_or}
 use Rattle.std.proofs.lemmas.List.{length_push}
 use Rattle.ft_scan.specs.meaning.Allowing.{nat_after}
-use Rattle.ft_replay.specs.Differing.{first_with}
-use Rattle.ft_replay.specs.IsReplaying.{Replays}
-use Rattle.ft_replay.specs.Replaying.{Replaying}
+use Rattle.ft_replay.specs.scans.Differing.{first_with}
+use Rattle.ft_replay.specs.scans.IsReplaying.{Replays}
+use Rattle.ft_replay.specs.meaning.Replaying.{Replaying}
 use Rattle.ft_replay.proofs.StepLemmas.{replays-more}
 use Rattle.ft_replay.proofs.replayer.Replayer.scan.Goals as goal
 

@@ -1,7 +1,7 @@
 use Rattle.std.proofs.Common.{◌≡◌, ◌∙◌, sym, ap, subst, ◌∷◌, [], ◌++◌, length}
-use Rattle.ft_core.specs.Kinds.{count_of, given_kinds, side_kinds}
-use Rattle.ft_mean.specs.Proper.{AllProper}
-use Rattle.ft_mean.specs.Reading.{IsListOf}
+use Rattle.ft_core.specs.meaning.Kinds.{count_of, given_kinds, side_kinds}
+use Rattle.ft_mean.specs.meaning.Proper.{AllProper}
+use Rattle.ft_mean.specs.meaning.Reading.{IsListOf}
 use Rattle.ft_scan.specs.steps.Put.{ArePlacesIn, AreOnce, AreTold}
 use Rattle.ft_scan.specs.meaning.Scanning.{Scanning}
 use Rattle.ft_scan.specs.steps.Stands.{kept_of, rows_at}
@@ -41,7 +41,7 @@ tell_values-requires-clause-inside c =
 
 -- the scan's rows, and what it stands for with them
 went_on : (c : goal.After-self-1) → GoesOnBy c.self.inside.tables.now (kept_of c.self.inside) c.self.inside.past.items c.args.given.now c.tell_values.new.values
-    c.end_scan.new.frame c.with-self-inside.result.items
+    c.end_scan.new.frame c.followed_by-self-inside.result.items
 went_on c =
     let s = c.self.inside in
     let S = s.tables.now in
@@ -55,7 +55,7 @@ went_on c =
     = subst (λ row. AreTold s.side_variables row (length s.side_variables) c.tell_values.new.values) c.as_slice-4.ensures
     (subst (λ places. AreTold places c.as_slice-4.result.now (length places) c.tell_values.new.values) c.as_slice-3.ensures c.tell_values.ensures.told) in
     (goes_on c.laws.ensures) S proper (kept_of s) s.past.items c.args.given.now c.self.invariant in_range c.run_steps.new.frame told
-    c.tell_values.new.values (c.tell_values.ensures.count ∙ room) out c.end_scan.new.frame c.end_scan.ensures c.with-self-inside.result.items c.with-self-inside.ensures
+    c.tell_values.new.values (c.tell_values.ensures.count ∙ room) out c.end_scan.new.frame c.end_scan.ensures c.followed_by-self-inside.result.items c.followed_by-self-inside.ensures
 
 pub invariant_of-self : goal.invariant_of-self
 invariant_of-self c = (went_on c).stands

@@ -1,5 +1,5 @@
 use Rattle.std.proofs.Common.{◌≡◌, rules}
-use Rattle.ft_trace.specs.Source.{rows_left}
+use Rattle.ft_trace.specs.meaning.Source.{rows_left}
 use Rattle.ft_trace.proofs.ReaderLemmas.{gives, meets-fault}
 use Rattle.ft_trace.proofs.reading.TraceReader.next.Goals as goal
 

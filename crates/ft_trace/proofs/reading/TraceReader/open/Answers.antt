@@ -1,6 +1,6 @@
 use Rattle.std.proofs.Common.{◌∙◌, sym}
 use Rattle.csv.specs.Records.{fields_of}
-use Rattle.ft_trace.specs.Source.{rows_left}
+use Rattle.ft_trace.specs.meaning.Source.{rows_left}
 use Rattle.ft_trace.proofs.ReaderLemmas.{opened}
 use Rattle.ft_trace.proofs.reading.TraceReader.open.Goals as goal
 

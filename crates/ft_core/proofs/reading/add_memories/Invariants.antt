@@ -1,7 +1,0 @@
-use Rattle.std.proofs.Common.{◌≡◌, ◌++◌, take, map, Some}
-use Rattle.ft_core.specs.Gathering.{items_in}
-use Rattle.ft_core.specs.Reads.{memory_reads}
-use Rattle.ft_core.proofs.reading.add_memories.Given as goal
-
-abbrev pub invariant-loop-memory : goal.invariant-loop-memory
-invariant-loop-memory l = l.lists ≡ l.initial.lists ++ map (λ memory. items_in l.counts.vars l.counts.memories (memory_reads (Some memory))) (take l.memory-index l.memories)

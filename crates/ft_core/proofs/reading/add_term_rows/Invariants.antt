@@ -1,8 +1,0 @@
-use Rattle.std.proofs.Common.{take}
-use Rattle.std.specs.List.{flat_map}
-use Rattle.ft_core.specs.Gathering.{Adds}
-use Rattle.ft_core.specs.Reads.{term_reads}
-use Rattle.ft_core.proofs.reading.add_term_rows.Given as goal
-
-abbrev pub invariant-loop-row : goal.invariant-loop-row
-invariant-loop-row l = Adds l.counts.vars l.counts.memories (flat_map (flat_map term_reads) (take l.row-index l.rows)) l.initial.items l.items

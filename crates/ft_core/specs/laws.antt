@@ -1,0 +1,5 @@
+-- What the crates above cite of these definitions: equations, and tests that compute.
+pub mod CheckedTests
+pub mod Equations
+pub mod Places
+pub mod SizeEquations

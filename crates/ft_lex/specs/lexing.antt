@@ -1,0 +1,2 @@
+-- The reading of one token from left to right.
+pub mod Lexing

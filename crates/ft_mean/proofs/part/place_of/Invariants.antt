@@ -1,7 +1,0 @@
-use Rattle.std.proofs.Common.{◌≡◌, ◌≤◌}
-use Rattle.ft_core.specs.Kinds.{place_of}
-use Rattle.ft_mean.specs.Part.{kinds_of}
-use Rattle.ft_mean.proofs.part.place_of.Given as goal
-
-abbrev pub invariant-loop-place : goal.invariant-loop-place
-invariant-loop-place l = (l.count ≡ place_of (kinds_of l.part) l.vars l.place) × (l.count ≤ l.place)

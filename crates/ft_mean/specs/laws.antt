@@ -1,0 +1,13 @@
+-- Laws over these definitions: the clauses of the functions of src/law.rt.
+pub mod Equations
+pub mod EvaluationLaws
+pub mod Laws
+pub mod LookLaws
+pub mod Moves
+pub mod PastLaws
+pub mod RowLaws
+pub mod SafetyLaws
+pub mod TableLaws
+pub mod TimeLaws
+pub mod TraceLaws
+pub mod Whole

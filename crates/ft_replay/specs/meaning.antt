@@ -1,0 +1,3 @@
+-- What contracts see of a replayer, and what its answers say.
+pub mod Replayed
+pub mod Replaying
