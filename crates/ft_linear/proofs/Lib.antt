@@ -1,6 +1,6 @@
 mod Basics
-pub mod NodeLemmas
 pub mod FormLemmas
+pub mod FormLaws
 pub mod ForcedLaws
 pub mod SlotLemmas
 pub mod LowerLemmas
@@ -9,6 +9,3 @@ pub mod PartLaws
 pub mod MarksLemmas
 pub mod UnknownLemmas
 pub mod RuleLemmas
-pub mod CanonicalLemmas
-pub mod RawLemmas
-pub mod SettleLemmas

@@ -11,10 +11,10 @@ use Rattle.ft_linear.specs.declared.forcing.Signs.{Signs}
 use Rattle.ft_linear.specs.Forced.{Seen, seen, value_of, forces, same_bool, and_forces, or_forces, by_only}
 use Rattle.ft_base.specs.Three.{can_be}
 use Rattle.ft_linear.specs.Slots.{slots_of, only_of, StartsWith, Adds}
-use Rattle.ft_linear.proofs.NodeLemmas.{forces-At, forces-Not, forces-And, forces-Or}
+use Rattle.ft_linear.specs.Nodes.{forces-At, forces-Not, forces-And, forces-Or}
 use Rattle.ft_linear.proofs.ForcedLaws.{count-map}
 use Rattle.ft_linear.proofs.SlotLemmas.{fronted, own_slot, slots-Not, slots-And, slots-Or, adds-none, adds-same, adds-then}
-use Rattle.ft_linear.proofs.Basics.{or-none, or-assoc}
+use Rattle.std.proofs.Math.Bool.{or-false, or_assoc}
 
 same-some : {X : Type 0} (x y : X) → Some x ≡ Some y → x ≡ y
 same-some x y e = cc e
@@ -78,8 +78,8 @@ module _ (atoms : ℕ → Three) where
       starts-next after goes = (starts.0, goes ∙ ap (drop first.size) from-here ∙ drop_at (slots_of atoms part) _ first.size size-here)
 
 any-push : {E : Type 0} (p : E → Bool) (f : Node → E) (ps : List Node) (part : Node) → list_any p (map f (ps ++ part ∷ [])) ≡ (list_any p (map f ps) || p (f part))
-any-push p f [] part = or-none (p (f part))
-any-push p f (q ∷ ps) part = ap (λ b. p (f q) || b) (any-push p f ps part) ∙ sym (or-assoc (p (f q)) (list_any p (map f ps)) (p (f part)))
+any-push p f [] part = or-false (p (f part))
+any-push p f (q ∷ ps) part = ap (λ b. p (f q) || b) (any-push p f ps part) ∙ sym (or_assoc (p (f q)) (list_any p (map f ps)) (p (f part)))
 
 pub any-more : {E : Type 0} (p : E → Bool) (f : Node → E) (parts : List Node) (i : ℕ) (part : Node) → i < length parts → part ≡ slice_index_or parts i part
     → (list_any p (map f (take i parts)) || p (f part)) ≡ list_any p (map f (take (i + 1) parts))

@@ -19,9 +19,9 @@ use Rattle.ft_linear.specs.declared.forcing.Signs.{Signs}
 use Rattle.ft_linear.specs.Forced.{value_of}
 use Rattle.ft_base.specs.Three.{three_not, three_all, three_any, can_be, is_no, is_yes, all_by, any_by}
 use Rattle.ft_linear.specs.Slots.{Marked, marked, layer_slots, slots_of, only_of, IsWritten, Adds, with_more}
-use Rattle.ft_linear.proofs.NodeLemmas.{With, bare, node_induction, folds, value-At, value-Not, value-And, value-Or}
+use Rattle.ft_linear.specs.Nodes.{With, bare, node_induction, folds, value-At, value-Not, value-And, value-Or}
 use Rattle.ft_linear.proofs.ForcedLaws.{count-cons, count-yes, count-no}
-use Rattle.ft_linear.proofs.Basics.{or-none, or-assoc}
+use Rattle.std.proofs.Math.Bool.{or-false, or_assoc}
 
 above-zero : (n : ℕ) → true ≡ nat_lt 0 (suc n)
 above-zero n = grind arith
@@ -238,14 +238,14 @@ count-more p f parts i part within is =
 
 adds-nothing : (o : Option Signs) → o ≡ option_map (with_more false false) o
 adds-nothing None = refl
-adds-nothing (Some signs) = ap Some (λ i. record { yes = sym (or-none signs.yes) i; no = sym (or-none signs.no) i })
+adds-nothing (Some signs) = ap Some (λ i. record { yes = sym (or-false signs.yes) i; no = sym (or-false signs.no) i })
 
 pub adds-none : (signs : List Signs) → Adds (λ a s. false) signs signs
 adds-none signs a = adds-nothing (slice_get signs a)
 
 adds-twice : (a b c d : Bool) (o : Option Signs) → option_map (with_more c d) (option_map (with_more a b) o) ≡ option_map (with_more (a || c) (b || d)) o
 adds-twice a b c d None = refl
-adds-twice a b c d (Some signs) = ap Some (λ i. record { yes = or-assoc signs.yes a c i; no = or-assoc signs.no b d i })
+adds-twice a b c d (Some signs) = ap Some (λ i. record { yes = or_assoc signs.yes a c i; no = or_assoc signs.no b d i })
 
 pub adds-then : (f g : ℕ → Bool → Bool) (old mid now : List Signs) → Adds f old mid → Adds g mid now → Adds (λ a s. f a s || g a s) old now
 adds-then f g old mid now h k a = k a ∙ ap (option_map (with_more (g a true) (g a false))) (h a) ∙ adds-twice (f a true) (f a false) (g a true) (g a false) (slice_get old a)

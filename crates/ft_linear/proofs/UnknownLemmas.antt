@@ -1,18 +1,13 @@
 -- Sums of factors, unknown by unknown.
 use Rattle.std.proofs.Common.{◌≡◌, ◌≢◌, ◌∙◌, inl, inr, sym, ap, refl, ℕ, zero, suc, ◌+◌, ◌<◌, ◌≤◌, ℤ, pos, ◌+ℤ◌, ◌*ℤ◌, neg_ℤ, Bool, true, false, cond, List, [], ◌∷◌, ◌++◌, map, arith}
 use Rattle.std.specs.Prelude.{nat_eq}
-use Rattle.std.proofs.lemmas.Bool.{cases_Bool}
+use Rattle.std.proofs.lemmas.Bool.{cases_Bool, eqb-true}
 use Rattle.std.proofs.lemmas.Int.{ints}
 use Rattle.std.proofs.Math.IntN.{suc_ℤ-*ℤ, zero-*ℤ}
-use Rattle.ft_linear.specs.Form.{Factor, sum_at}
+use Rattle.ft_linear.specs.Form.{Factor, scaled, sum_at}
 use Rattle.ft_linear.specs.Rules.{factor_of}
 use Rattle.ft_linear.proofs.Whole.{add-mul, mul-add, neg-mul}
-use Rattle.ft_linear.proofs.ForcedLaws.{eq-nat}
 use Rattle.ft_linear.proofs.Basics.{opposites}
-
-abbrev pub scaled : ℕ → List Factor → List Factor
-scaled t [] = []
-scaled t (f ∷ fs) = (f.0, pos t *ℤ f.1) ∷ scaled t fs
 
 -- the sum of a function over the numbers below n
 total : ℕ → (ℕ → ℤ) → ℤ
@@ -35,7 +30,7 @@ at_one x v f u = cond (nat_eq v u) f (pos 0) *ℤ x u
 
 pub not-equal : (v u : ℕ) → v ≢ u → nat_eq v u ≡ false
 not-equal v u h = elim (cases_Bool (nat_eq v u)) [
-  | inl so ↦ absurd (h (eq-nat v u so))
+  | inl so ↦ absurd (h (eqb-true v u so))
   | inr isnt ↦ isnt
 ]
 
@@ -53,7 +48,7 @@ unfolding total
 total-one zero x v f h = absurd (omega (arith, h))
 total-one (suc n) x v f h = elim (cases_Bool (nat_eq v n)) [
   | inl so ↦
-      let e = eq-nat v n so in
+      let e = eqb-true v n so in
       let r = total-zero n (at_one x v f) (λ u below. at-another x v f u (λ same. omega (arith, same, below, e))) in
       let here : at_one x v f n ≡ f *ℤ x v = ap (at_one x v f) (sym e) ∙ at-itself x v f in
       omega (arith, ints, r, here)
@@ -100,7 +95,7 @@ pub alone : (x : ℕ → ℤ) (u : ℕ) (fs : List Factor) → ((v : ℕ) → v 
 alone x u fs h =
     let g : ℤ = factor_of u fs in
     let all : (v : ℕ) → factor_of v ((u, neg_ℤ g) ∷ fs) ≡ pos 0 = λ v. elim (cases_Bool (nat_eq u v)) [
-      | inl so ↦ ap (λ (b : Bool). cond b (neg_ℤ g) (pos 0) +ℤ factor_of v fs) so ∙ ap (λ (w : ℕ). neg_ℤ g +ℤ factor_of w fs) (sym (eq-nat u v so)) ∙ opposites g
+      | inl so ↦ ap (λ (b : Bool). cond b (neg_ℤ g) (pos 0) +ℤ factor_of v fs) so ∙ ap (λ (w : ℕ). neg_ℤ g +ℤ factor_of w fs) (sym (eqb-true u v so)) ∙ opposites g
       | inr isnt ↦ ap (λ (b : Bool). cond b (neg_ℤ g) (pos 0) +ℤ factor_of v fs) isnt ∙ ap (λ (z : ℤ). pos 0 +ℤ z) (h v (λ same. cc (sym isnt ∙ ap (nat_eq u) same ∙ equal-to-itself u)))
     ] in
     let e = cancels x ((u, neg_ℤ g) ∷ fs) all in

@@ -5,10 +5,6 @@ use Rattle.std.specs.Prelude.{ℕ}
 abbrev pub value_most : ℕ
 value_most = 4000000000000000
 
--- a constant of a formula that is to be settled
-abbrev pub moderate_most : ℕ
-moderate_most = 3000000000000000
-
 -- a factor times a value, and 10,000 of them together
 abbrev pub product_most : ℕ
 product_most = 16000000000000000000000000000000

@@ -34,6 +34,11 @@ abbrev pub sum_at : (ℕ → ℤ) → List Factor → ℤ
 sum_at x [] = pos 0
 sum_at x (f ∷ fs) = (f.1 *ℤ x f.0) +ℤ sum_at x fs
 
+-- the factors, each so many times
+abbrev pub scaled : ℕ → List Factor → List Factor
+scaled t [] = []
+scaled t (f ∷ fs) = (f.0, pos t *ℤ f.1) ∷ scaled t fs
+
 -- the value of a form at a point
 abbrev pub form_at : (ℕ → ℤ) → LinView → ℤ
 form_at x l = sum_at x l.factors +ℤ l.constant

@@ -1,7 +1,9 @@
 pub mod Bounds
 pub mod Form
+pub mod FormLaws
 pub mod Truth
 pub mod Formula
+pub mod Nodes
 pub mod Evaluate
 pub mod Forced
 pub mod Part
@@ -9,4 +11,3 @@ pub mod Slots
 pub mod Marks
 pub mod Rules
 pub mod Cancelling
-pub mod Canonical

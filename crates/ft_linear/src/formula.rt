@@ -91,8 +91,8 @@ impl Formula {
         are_over(self.atoms(), count)
     }
 
-    /// The formula with these atoms and a tree that has no others.
-    pub(crate) fn of_placed(atoms: List<Lin>, root: Node) -> Formula
+    /// The formula with these atoms and this tree, of which the caller knows that it has no others.
+    pub fn of_parts(atoms: List<Lin>, root: Node) -> Formula
         requires { atoms_below (length atoms) root ≡ true }
         ensures { result ≡ record { atoms = atoms; root = root } }
     {

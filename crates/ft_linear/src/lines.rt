@@ -130,13 +130,13 @@ fn unit_at(own: u32, unknown: u32, unit: i64) -> i64
     if own == unknown { unit } else { 0 }
 }
 
-/// The number, or minus it.
-pub fn signed(value: bool, number: i64) -> i64
-    requires { IsSmall number }
-    ensures value { result ≡ if value then number else neg_ℤ number }
+/// A factor of a literal's form, by that of its atom: the same where the atom is to be true, and else minus it.
+pub fn literal_factor(value: bool, factor: i64) -> i64
+    requires { IsSmall factor }
+    ensures value { result ≡ if value then factor else neg_ℤ factor }
     ensures small { IsSmall result }
 {
-    if value { number } else { -number }
+    if value { factor } else { -factor }
 }
 
 /// The factor of an unknown in a line.
@@ -146,7 +146,7 @@ pub fn line_factor(formula: &Formula, part: &Part, line: &Line, unknown: u32) ->
     ensures small { unsigned_abs result ≤ line_most }
 {
     match *line {
-        Line::Atom { number, value, .. } => signed(
+        Line::Atom { number, value, .. } => literal_factor(
             value,
             factor_of(formula.atoms()[number as usize].factors(), unknown),
         ),
@@ -155,8 +155,8 @@ pub fn line_factor(formula: &Formula, part: &Part, line: &Line, unknown: u32) ->
     }
 }
 
-/// The constant, or 1 minus it.
-pub fn turned(value: bool, constant: i64) -> i64
+/// The constant of a literal's form, by that of its atom: the same where the atom is to be true, and else 1 minus it.
+pub fn literal_constant(value: bool, constant: i64) -> i64
     requires { IsSmall constant }
     ensures value { result ≡ if value then constant else (pos 1 -ℤ constant) }
     ensures small { unsigned_abs result ≤ unsigned_abs constant + 1 }
@@ -190,7 +190,7 @@ pub fn line_constant(formula: &Formula, part: &Part, line: &Line) -> i64
 {
     match *line {
         Line::Atom { number, value, .. } => {
-            turned(value, formula.atoms()[number as usize].constant())
+            literal_constant(value, formula.atoms()[number as usize].constant())
         }
         Line::Upper { unknown, .. } => -upper(part, unknown as usize),
         Line::Lower { unknown, .. } => lower(part, unknown as usize),

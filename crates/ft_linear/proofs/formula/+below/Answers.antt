@@ -1,5 +1,5 @@
 use Rattle.std.proofs.Common.{refl}
-use Rattle.ft_linear.proofs.NodeLemmas.{below-At, below-Not, below-And, below-Or}
+use Rattle.ft_linear.specs.Nodes.{below-At, below-Not, below-And, below-Or}
 use Rattle.ft_linear.proofs.formula.+below.Goals as goal
 
 pub below-returns-in-At : goal.below-returns-in-At

@@ -1,0 +1,3 @@
+pub mod CanonicalLemmas
+pub mod RawLemmas
+pub mod SettleLemmas
