@@ -25,10 +25,10 @@ HasOutcome P old new Met = (new ≡ old) × P (highs old)
 HasOutcome P old new (Lowered u) = Narrows P old new
 HasOutcome P old new Barred = (x : ℕ → ℤ) → P x → InArea old x → ⊥
 
-abbrev pub after : Step → Step → Step
-after step Met = step
-after step (Lowered u) = Lowered u
-after step Barred = Barred
+abbrev pub combined : Step → Step → Step
+combined step Met = step
+combined step (Lowered u) = Lowered u
+combined step Barred = Barred
 
 abbrev pub is_barred : Step → Bool
 is_barred Met = false

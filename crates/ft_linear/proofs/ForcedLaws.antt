@@ -208,11 +208,11 @@ module _ (atoms : ℕ → Three) (at : ℕ → Bool) (sound : SoundAtoms atoms a
       let (same, signs) = and_parts (nat_eq atom a) (same_bool want sign) e in
       ap at (eqb-true atom a same) ∙ is ∙ same-bools want sign signs
 
-  turned : (b want : Bool) → not b ≡ want → b ≡ not want
-  turned true true e = cc e
-  turned true false e = refl
-  turned false true e = refl
-  turned false false e = cc e
+  other-way : (b want : Bool) → not b ≡ want → b ≡ not want
+  other-way true true e = cc e
+  other-way true false e = refl
+  other-way false true e = refl
+  other-way false false e = cc e
 
   guarded : (g b : Bool) → cond g b false ≡ true → (g ≡ true) × (b ≡ true)
   guarded true b e = (refl, e)
@@ -262,7 +262,7 @@ module _ (atoms : ℕ → Three) (at : ℕ → Bool) (sound : SoundAtoms atoms a
   forced-all : Inductive Forced
   forced-all = record {
     at = λ a want atom sign is e. at-leaf a atom want sign (sym (truth-At at a) ∙ is) (sym (forces-At atoms want atom sign a) ∙ e);
-    negated = λ inner h want atom sign is e. h (not want) atom sign (turned (truth at inner) want (sym (truth-Not at inner) ∙ is)) (sym (forces-Not atoms want atom sign inner) ∙ e);
+    negated = λ inner h want atom sign is e. h (not want) atom sign (other-way (truth at inner) want (sym (truth-Not at inner) ∙ is)) (sym (forces-Not atoms want atom sign inner) ∙ e);
     all = λ parts want atom sign is e. all-parts parts want atom sign is (sym (forces-And atoms want atom sign (bare parts)) ∙ e);
     any = λ parts want atom sign is e. any-parts parts want atom sign is (sym (forces-Or atoms want atom sign (bare parts)) ∙ e);
   }

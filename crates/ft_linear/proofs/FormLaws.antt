@@ -5,12 +5,12 @@ use Rattle.std.proofs.lemmas.Bool.{cases_Bool}
 use Rattle.std.proofs.lemmas.Int.{ints}
 use Rattle.ft_linear.specs.Form.{sum_at, form_at}
 use Rattle.ft_linear.specs.FormLaws.{LiteralsHold, DividedHolds, QuotientIsExact}
-use Rattle.ft_linear.proofs.UnknownLemmas.{sum-scaled, sum-turned}
+use Rattle.ft_linear.proofs.UnknownLemmas.{sum-scaled, sum-negated}
 use Rattle.ft_linear.proofs.Whole.{divided-form, quotient-is}
 
 pub literals-hold : LiteralsHold
 literals-hold x true l = refl
-literals-hold x false l = ap (λ (s : ℤ). int_le (s +ℤ (pos 1 -ℤ l.constant)) (pos 0)) (sum-turned x l.factors) ∙ opposite (sum_at x l.factors) l.constant
+literals-hold x false l = ap (λ (s : ℤ). int_le (s +ℤ (pos 1 -ℤ l.constant)) (pos 0)) (sum-negated x l.factors) ∙ opposite (sum_at x l.factors) l.constant
   where
     opposite : (s c : ℤ) → int_le (neg_ℤ s +ℤ (pos 1 -ℤ c)) (pos 0) ≡ not (int_le (s +ℤ c) (pos 0))
     opposite s c = elim (cases_Bool (int_le (s +ℤ c) (pos 0))) [

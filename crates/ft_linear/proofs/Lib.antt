@@ -3,7 +3,7 @@ pub mod FormLemmas
 pub mod FormLaws
 pub mod ForcedLaws
 pub mod SlotLemmas
-pub mod LowerLemmas
+pub mod ForcingLemmas
 pub mod Whole
 pub mod PartLaws
 pub mod MarksLemmas

@@ -19,7 +19,7 @@ use Rattle.ft_linear.specs.Part.{PartView, forced}
 use Rattle.ft_linear.specs.Rules.{Contradicts, HoldsForced, Tightens, is_line, is_multiplier, line_form, literal_form, upper_form, lower_form, times_of, factor_of, factors_in, constant_in, total_factor, total_constant, narrowed, up_to, down_to}
 use Rattle.ft_linear.specs.Cancelling.{is_kept, is_cancelled, are_cancelled}
 use Rattle.ft_linear.proofs.Whole.{times-up, mul-add, neg-mul, mul-neg, under-floor}
-use Rattle.ft_linear.proofs.UnknownLemmas.{cancels, alone, sum-append, sum-scaled, times-none, equal-to-itself, not-equal, factor_of-append, factor_of-scaled, factor_of-turned, sum-turned}
+use Rattle.ft_linear.proofs.UnknownLemmas.{cancels, alone, sum-append, sum-scaled, times-none, equal-to-itself, not-equal, factor_of-append, factor_of-scaled, factor_of-negated, sum-negated}
 use Rattle.ft_linear.proofs.Basics.{is-zero}
 
 -- an unknown below those of a form has the factor 0, and the first factor of an unknown is its only one
@@ -158,7 +158,7 @@ module _ (f : FormulaView) (p : PartView) where
       where
         at-most-zero : (z : ℤ) → int_le z (pos 0) ≡ true → z ≤ℤ pos 0
         at-most-zero z e = grind (arith, ints)
-    literal-holds false (Some l) e = let t = sum-turned x l.factors in let a = above-zero (form_at x l) e in omega (arith, ints, t, a)
+    literal-holds false (Some l) e = let t = sum-negated x l.factors in let a = above-zero (form_at x l) e in omega (arith, ints, t, a)
       where
         above-zero : (z : ℤ) → int_le z (pos 0) ≡ false → pos 0 <ℤ z
         above-zero z e = grind (arith, ints)
@@ -259,7 +259,7 @@ module _ (f : FormulaView) (p : PartView) (number : ℕ) (value : Bool) (times :
 
   by-sign : (value : Bool) (u : ℕ) → cond value (factor_of u l.factors) (neg_ℤ (factor_of u l.factors)) ≡ factor_of u (literal_form value l).factors
   by-sign true u = refl
-  by-sign false u = sym (factor_of-turned u l.factors)
+  by-sign false u = sym (factor_of-negated u l.factors)
 
   pub literal-factor : (u : ℕ) → cond value (factor_of u l.factors) (neg_ℤ (factor_of u l.factors)) ≡ factor_of u (factors_in (line_form f p line))
   literal-factor u = by-sign value u ∙ sym (ap (λ (o : Option LinView). factor_of u (factors_in o)) form-is)

@@ -133,18 +133,18 @@ factor_of-scaled u t (f ∷ fs) =
     let d = mul-add (pos t) (cond (nat_eq f.0 u) f.1 (pos 0)) (factor_of u fs) in
     omega (arith, ints, c, r, d)
 
--- the factors with their signs turned
-abbrev pub turned : List Factor → List Factor
-turned fs = map (λ f. (f.0, neg_ℤ f.1)) fs
+-- the factors of minus the form
+abbrev pub negated_factors : List Factor → List Factor
+negated_factors fs = map (λ f. (f.0, neg_ℤ f.1)) fs
 
 cond-neg : (b : Bool) (f : ℤ) → cond b (neg_ℤ f) (pos 0) ≡ neg_ℤ (cond b f (pos 0))
 cond-neg true f = refl
 cond-neg false f = refl
 
-pub factor_of-turned : (u : ℕ) (fs : List Factor) → factor_of u (turned fs) ≡ neg_ℤ (factor_of u fs)
-factor_of-turned u [] = refl
-factor_of-turned u (f ∷ fs) = let c = cond-neg (nat_eq f.0 u) f.1 in let r = factor_of-turned u fs in omega (arith, ints, c, r)
+pub factor_of-negated : (u : ℕ) (fs : List Factor) → factor_of u (negated_factors fs) ≡ neg_ℤ (factor_of u fs)
+factor_of-negated u [] = refl
+factor_of-negated u (f ∷ fs) = let c = cond-neg (nat_eq f.0 u) f.1 in let r = factor_of-negated u fs in omega (arith, ints, c, r)
 
-pub sum-turned : (x : ℕ → ℤ) (fs : List Factor) → sum_at x (turned fs) ≡ neg_ℤ (sum_at x fs)
-sum-turned x [] = refl
-sum-turned x (f ∷ fs) = let n = neg-mul f.1 (x f.0) in let r = sum-turned x fs in omega (arith, ints, n, r)
+pub sum-negated : (x : ℕ → ℤ) (fs : List Factor) → sum_at x (negated_factors fs) ≡ neg_ℤ (sum_at x fs)
+sum-negated x [] = refl
+sum-negated x (f ∷ fs) = let n = neg-mul f.1 (x f.0) in let r = sum-negated x fs in omega (arith, ints, n, r)

@@ -34,12 +34,12 @@ impl Model for Formula {
 }
 
 /// Whether each atom of some trees is below this number.
-#[cycle(below)]
-fn all_below(parts: &[Node], count: usize) -> bool
+#[cycle(has_atoms_below)]
+fn have_atoms_below(parts: &[Node], count: usize) -> bool
     ensures { result ≡ list_all (atoms_below count) parts.now }
 {
     for part in parts {
-        if !below(part, count) {
+        if !has_atoms_below(part, count) {
             return false;
         }
     }
@@ -47,15 +47,15 @@ fn all_below(parts: &[Node], count: usize) -> bool
 }
 
 /// Whether each atom of a tree is below this number.
-#[cycle(below)]
-fn below(node: &Node, count: usize) -> bool
+#[cycle(has_atoms_below)]
+fn has_atoms_below(node: &Node, count: usize) -> bool
     ensures { result ≡ atoms_below count node.now }
 {
     match node {
         Node::At(atom) => (*atom as usize) < count,
-        Node::Not(inner) => below(inner.get(), count),
-        Node::And(parts) => all_below(parts.as_slice(), count),
-        Node::Or(parts) => all_below(parts.as_slice(), count),
+        Node::Not(inner) => has_atoms_below(inner.get(), count),
+        Node::And(parts) => have_atoms_below(parts.as_slice(), count),
+        Node::Or(parts) => have_atoms_below(parts.as_slice(), count),
     }
 }
 
@@ -77,7 +77,7 @@ impl Formula {
     pub fn new(atoms: List<Lin>, root: Node) -> Option<Formula>
         ensures { SomeIff result (atoms_below (length atoms) root ≡ true) (record { atoms = atoms; root = root }) }
     {
-        if below(&root, atoms.len()) {
+        if has_atoms_below(&root, atoms.len()) {
             Some(Formula { atoms, root })
         } else {
             None

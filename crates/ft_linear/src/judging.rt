@@ -65,15 +65,15 @@ fn is_agreed(decision: Option<bool>, fixed: Three) -> bool
     }
 }
 
-/// Whether one of two is so.
-fn either(first: bool, second: bool) -> bool
+/// Whether one of two holds.
+fn disjunction(first: bool, second: bool) -> bool
     ensures { result ≡ (first || second) }
 {
     first || second
 }
 
-/// Whether two are so.
-fn both(first: bool, second: bool) -> bool
+/// Whether two hold.
+fn conjunction(first: bool, second: bool) -> bool
     ensures { result ≡ (first && second) }
 {
     first && second
@@ -104,24 +104,24 @@ fn weigh(formula: &Formula, part: &Part, values: &mut [Three], signs: &mut [Sign
         let fixed = atom.fixed(spans);
         values[at] = value_by(decision, fixed);
         signs[at] = decided_signs(decision);
-        against = either(against, is_against(decision, fixed));
-        agreed = both(agreed, is_agreed(decision, fixed));
+        against = disjunction(against, is_against(decision, fixed));
+        agreed = conjunction(agreed, is_agreed(decision, fixed));
     }
     Weighed { against, agreed }
 }
 
 /// Whether some atom is forced both ways.
-fn any_both(signs: &[Signs]) -> bool
+fn any_both_ways(signs: &[Signs]) -> bool
     ensures { result ≡ list_any (λ s. s.yes && s.no) signs.now }
 {
     signs.iter().any(|s| s.yes && s.no)
 }
 
 /// The truth of a part, by its root's value and what the atoms tell.
-fn truth_by(root: Three, against: bool, both: bool, agreed: bool) -> Three
-    ensures { result ≡ if is_no root || against || both then No else if is_yes root && agreed then Yes else Maybe }
+fn truth_by(root: Three, against: bool, both_ways: bool, agreed: bool) -> Three
+    ensures { result ≡ if is_no root || against || both_ways then No else if is_yes root && agreed then Yes else Maybe }
 {
-    if root == Three::No || against || both {
+    if root == Three::No || against || both_ways {
         Three::No
     } else if root == Three::Yes && agreed {
         Three::Yes
@@ -146,7 +146,7 @@ fn judge_in(
 {
     let weighed = weigh(formula, part, values, signs);
     let root = mark_forced(formula.root(), values, slots, signs);
-    truth_by(root, weighed.against, any_both(signs), weighed.agreed)
+    truth_by(root, weighed.against, any_both_ways(signs), weighed.agreed)
 }
 
 /// The truth of the formula in a part of its area: No only where no point of the part satisfies it, Yes only where

@@ -121,13 +121,13 @@ fn factor_of(factors: &[(u32, i64)], unknown: u32) -> i64
     0
 }
 
-/// The factor of an unknown in a form that has one unknown alone, with this factor.
-fn unit_at(own: u32, unknown: u32, unit: i64) -> i64
+/// The factor of an unknown in a form that has one unknown alone, with the factor 1 or -1.
+fn unit_factor(bounded: u32, unknown: u32, unit: i64) -> i64
     requires { unsigned_abs unit ≤ 1 }
-    ensures value { result ≡ factor_of unknown ((own, unit) ∷ []) }
+    ensures value { result ≡ factor_of unknown ((bounded, unit) ∷ []) }
     ensures small { IsSmall result }
 {
-    if own == unknown { unit } else { 0 }
+    if bounded == unknown { unit } else { 0 }
 }
 
 /// A factor of a literal's form, by that of its atom: the same where the atom is to be true, and else minus it.
@@ -150,8 +150,8 @@ pub fn line_factor(formula: &Formula, part: &Part, line: &Line, unknown: u32) ->
             value,
             factor_of(formula.atoms()[number as usize].factors(), unknown),
         ),
-        Line::Upper { unknown: own, .. } => unit_at(own, unknown, 1),
-        Line::Lower { unknown: own, .. } => unit_at(own, unknown, -1),
+        Line::Upper { unknown: bounded, .. } => unit_factor(bounded, unknown, 1),
+        Line::Lower { unknown: bounded, .. } => unit_factor(bounded, unknown, -1),
     }
 }
 
@@ -165,7 +165,7 @@ pub fn literal_constant(value: bool, constant: i64) -> i64
 }
 
 /// The greatest number of an unknown.
-fn upper(part: &Part, unknown: usize) -> i64
+fn upper_bound(part: &Part, unknown: usize) -> i64
     requires { unknown < length part.now.spans }
     ensures value { result ≡ (span_at part.now.spans unknown).1 }
     ensures small { IsSmall result }
@@ -174,7 +174,7 @@ fn upper(part: &Part, unknown: usize) -> i64
 }
 
 /// The least number of an unknown.
-fn lower(part: &Part, unknown: usize) -> i64
+fn lower_bound(part: &Part, unknown: usize) -> i64
     requires { unknown < length part.now.spans }
     ensures value { result ≡ (span_at part.now.spans unknown).0 }
     ensures small { IsSmall result }
@@ -192,7 +192,7 @@ pub fn line_constant(formula: &Formula, part: &Part, line: &Line) -> i64
         Line::Atom { number, value, .. } => {
             literal_constant(value, formula.atoms()[number as usize].constant())
         }
-        Line::Upper { unknown, .. } => -upper(part, unknown as usize),
-        Line::Lower { unknown, .. } => lower(part, unknown as usize),
+        Line::Upper { unknown, .. } => -upper_bound(part, unknown as usize),
+        Line::Lower { unknown, .. } => lower_bound(part, unknown as usize),
     }
 }

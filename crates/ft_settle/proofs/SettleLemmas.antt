@@ -154,11 +154,11 @@ module _ (literal : LiteralsHold) (divide : DividedHolds) (quotient : QuotientIs
   }
 
   constant-placed : (c s : ℤ) → s ≡ c → IsPlaced (cond (int_le c (pos 0)) (node.And []) (node.Or [])) (int_le s (pos 0))
-  constant-placed c s e = subst (λ (z : ℤ). IsPlaced (cond (int_le c (pos 0)) (node.And []) (node.Or [])) (int_le z (pos 0))) (sym e) (either (int_le c (pos 0)))
+  constant-placed c s e = subst (λ (z : ℤ). IsPlaced (cond (int_le c (pos 0)) (node.And []) (node.Or [])) (int_le z (pos 0))) (sym e) (by-truth (int_le c (pos 0)))
     where
-      either : (b : Bool) → IsPlaced (cond b (node.And []) (node.Or [])) b
-      either true = record { below = below-And (length forms) []; same = truth-And (atom_at forms x) [] }
-      either false = record { below = below-Or (length forms) []; same = truth-Or (atom_at forms x) [] }
+      by-truth : (b : Bool) → IsPlaced (cond b (node.And []) (node.Or [])) b
+      by-truth true = record { below = below-And (length forms) []; same = truth-And (atom_at forms x) [] }
+      by-truth false = record { below = below-Or (length forms) []; same = truth-Or (atom_at forms x) [] }
 
   form-placed : (l : LinView) (fs : List Factor) → l.factors ≡ fs → Has forms (atoms_in l fs) → begins_well fs ≡ true → IsPlaced (placed_form forms l fs) (int_le (form_at x l) (pos 0))
   form-placed l [] is has well = constant-placed l.constant (form_at x l) (ap (λ (fs : List Factor). sum_at x fs +ℤ l.constant) is ∙ nothing l.constant)
@@ -188,10 +188,10 @@ module _ (literal : LiteralsHold) (divide : DividedHolds) (quotient : QuotientIs
       let (here, more) = and_parts (list_all (λ l. list_any (same_form l) forms) (forms_of p.0)) (list_all (λ l. list_any (same_form l) forms) (flat_map forms_of (bare_raw parts)))
       (sym (all-append (λ l. list_any (same_form l) forms) (forms_of p.0) (flat_map forms_of (bare_raw parts))) ∙ has) in
       let (first, rest) = and_parts (all_begin_well p.0) (list_all all_begin_well (bare_raw parts)) well in
-      let own = p.1 here first in
+      let whole = p.1 here first in
       let (below, same) = each-placed parts more rest in (
-        ap (λ b. b && list_all (atoms_below (length forms)) (map (placed forms) (bare_raw parts))) own.below ∙ below,
-        λ i. own.same i ∷ same i,
+        ap (λ b. b && list_all (atoms_below (length forms)) (map (placed forms) (bare_raw parts))) whole.below ∙ below,
+        λ i. whole.same i ∷ same i,
       )
 
   all-of : (q : Raw → Bool) (parts : List Raw) → list_all q parts ≡ list_all (λ (b : Bool). b) (map q parts)

@@ -40,7 +40,7 @@ returns c =
     let fits : SFits w64 c.literal_constant-constant.result = search rules in
     let fits_up : SFits w64 c.rounded_up.result = search rules in
     let fits_constant : SFits w64 c.constant.result = search rules in
-    let own = to_z-of_z w64 c.constant.result fits_constant ∙ c.constant.ensures.value in
-    let up = to_z-of_z w64 c.rounded_up.result fits_up ∙ c.rounded_up.ensures.value ∙ (λ i. neg_ℤ (floor_of (neg_ℤ (own i)) (pos (divisor i)))) in
+    let constant_read = to_z-of_z w64 c.constant.result fits_constant ∙ c.constant.ensures.value in
+    let up = to_z-of_z w64 c.rounded_up.result fits_up ∙ c.rounded_up.ensures.value ∙ (λ i. neg_ℤ (floor_of (neg_ℤ (constant_read i)) (pos (divisor i)))) in
     let constant = to_z-of_z w64 c.literal_constant-constant.result fits ∙ c.literal_constant-constant.ensures.value ∙ (λ i. cond (sign i) (up i) (pos 1 -ℤ up i)) in
     c.of_proper.ensures ∙ (λ i. record { factors = factors i; constant = constant i }) ∙ sym (quotients-are (is_positive fs) (gcd_of fs) c.args.form.now)

@@ -13,7 +13,7 @@ use Rattle.ft_base.specs.Three.{can_be}
 use Rattle.ft_linear.specs.Slots.{slots_of, only_of, StartsWith, Adds}
 use Rattle.ft_linear.specs.Nodes.{forces-At, forces-Not, forces-And, forces-Or}
 use Rattle.ft_linear.proofs.ForcedLaws.{count-map}
-use Rattle.ft_linear.proofs.SlotLemmas.{fronted, own_slot, slots-Not, slots-And, slots-Or, adds-none, adds-same, adds-then}
+use Rattle.ft_linear.proofs.SlotLemmas.{fronted, node_slot, slots-Not, slots-And, slots-Or, adds-none, adds-same, adds-then}
 use Rattle.std.proofs.Math.Bool.{or-false, or_assoc}
 
 same-some : {X : Type 0} (x y : X) → Some x ≡ Some y → x ≡ y
@@ -26,27 +26,27 @@ module _ (atoms : ℕ → Three) where
       let e = ap length (is ∙ ap (λ (l : List Slot). l ++ rest) front) in
       omega (arith, e)
 
-  pub below-Not : (inner node : Node) (slots below : List Slot) → node ≡ Not inner → StartsWith slots (slots_of atoms node) → below ≡ drop 1 slots → StartsWith below (slots_of atoms inner)
-  below-Not inner node slots below is (rest, starts) under =
+  pub inner-Not : (inner node : Node) (slots inner_slots : List Slot) → node ≡ Not inner → StartsWith slots (slots_of atoms node) → below ≡ drop 1 slots → StartsWith below (slots_of atoms inner)
+  inner-Not inner node slots below is (rest, starts) under =
       (rest, under ∙ ap (drop 1) (starts ∙ ap (λ (l : List Slot). l ++ rest) (ap (slots_of atoms) is ∙ slots-Not atoms inner)))
 
-  pub below-And : (parts : List Node) (node : Node) (slots below : List Slot) → node ≡ And parts → StartsWith slots (slots_of atoms node) → below ≡ drop 1 slots → StartsWith below (flat_map (slots_of atoms) parts)
-  below-And parts node slots below is (rest, starts) under =
+  pub inner-And : (parts : List Node) (node : Node) (slots inner_slots : List Slot) → node ≡ And parts → StartsWith slots (slots_of atoms node) → below ≡ drop 1 slots → StartsWith below (flat_map (slots_of atoms) parts)
+  inner-And parts node slots below is (rest, starts) under =
       (rest, under ∙ ap (drop 1) (starts ∙ ap (λ (l : List Slot). l ++ rest) (ap (slots_of atoms) is ∙ slots-And atoms parts)))
 
-  pub below-Or : (parts : List Node) (node : Node) (slots below : List Slot) → node ≡ Or parts → StartsWith slots (slots_of atoms node) → below ≡ drop 1 slots → StartsWith below (flat_map (slots_of atoms) parts)
-  below-Or parts node slots below is (rest, starts) under =
+  pub inner-Or : (parts : List Node) (node : Node) (slots inner_slots : List Slot) → node ≡ Or parts → StartsWith slots (slots_of atoms node) → below ≡ drop 1 slots → StartsWith below (flat_map (slots_of atoms) parts)
+  inner-Or parts node slots below is (rest, starts) under =
       (rest, under ∙ ap (drop 1) (starts ∙ ap (λ (l : List Slot). l ++ rest) (ap (slots_of atoms) is ∙ slots-Or atoms parts)))
 
-  pub own-And : (parts : List Node) (node : Node) (slots : List Slot) (own : Slot) → node ≡ And parts → StartsWith slots (slots_of atoms node) → slice_get slots 0 ≡ Some own
-      → own.only ≡ only_of false (map (value_of atoms) parts)
-  own-And parts node slots own is (rest, starts) first =
-      ap (λ (s : Slot). s.only) (same-some own _ (sym first ∙ ap (λ (l : List Slot). slice_get l 0) (starts ∙ ap (λ (l : List Slot). l ++ rest) (ap (slots_of atoms) is ∙ slots-And atoms parts))))
+  pub root-And : (parts : List Node) (node : Node) (slots : List Slot) (root : Slot) → node ≡ And parts → StartsWith slots (slots_of atoms node) → slice_get slots 0 ≡ Some root
+      → root.only ≡ only_of false (map (value_of atoms) parts)
+  root-And parts node slots root is (rest, starts) first =
+      ap (λ (s : Slot). s.only) (same-some root _ (sym first ∙ ap (λ (l : List Slot). slice_get l 0) (starts ∙ ap (λ (l : List Slot). l ++ rest) (ap (slots_of atoms) is ∙ slots-And atoms parts))))
 
-  pub own-Or : (parts : List Node) (node : Node) (slots : List Slot) (own : Slot) → node ≡ Or parts → StartsWith slots (slots_of atoms node) → slice_get slots 0 ≡ Some own
-      → own.only ≡ only_of true (map (value_of atoms) parts)
-  own-Or parts node slots own is (rest, starts) first =
-      ap (λ (s : Slot). s.only) (same-some own _ (sym first ∙ ap (λ (l : List Slot). slice_get l 0) (starts ∙ ap (λ (l : List Slot). l ++ rest) (ap (slots_of atoms) is ∙ slots-Or atoms parts))))
+  pub root-Or : (parts : List Node) (node : Node) (slots : List Slot) (root : Slot) → node ≡ Or parts → StartsWith slots (slots_of atoms node) → slice_get slots 0 ≡ Some root
+      → root.only ≡ only_of true (map (value_of atoms) parts)
+  root-Or parts node slots root is (rest, starts) first =
+      ap (λ (s : Slot). s.only) (same-some root _ (sym first ∙ ap (λ (l : List Slot). slice_get l 0) (starts ∙ ap (λ (l : List Slot). l ++ rest) (ap (slots_of atoms) is ∙ slots-Or atoms parts))))
 
   module _ (parts : List Node) (i : ℕ) (part : Node) (rest : List Slot) (within : i < length parts) (is : part ≡ slice_index_or parts i part)
       (starts : StartsWith rest (flat_map (slots_of atoms) (drop i parts))) where
@@ -61,21 +61,21 @@ module _ (atoms : ℕ → Three) where
     slots-left = some-slots part rest starts-here
 
     module _ (first : Slot) (gets : slice_get rest 0 ≡ Some first) where
-      is-own : (only : Bool) × (tail : List Slot) × (slots_of atoms part ≡ own_slot atoms (value_of atoms part) only tail ∷ tail) × (first ≡ own_slot atoms (value_of atoms part) only tail)
-      is-own = let (only, tail, front) = fronted atoms part in
+      is-root : (only : Bool) × (tail : List Slot) × (slots_of atoms part ≡ node_slot atoms (value_of atoms part) only tail ∷ tail) × (first ≡ node_slot atoms (value_of atoms part) only tail)
+      is-root = let (only, tail, front) = fronted atoms part in
           (only, tail, front, same-some first _ (sym gets ∙ ap (λ (l : List Slot). slice_get l 0) (from-here ∙ ap (λ (l : List Slot). l ++ (flat_map (slots_of atoms) (drop (i + 1) parts) ++ starts.0)) front)))
 
       pub value-here : first.value ≡ value_of atoms part
-      value-here = ap (λ (s : Slot). s.value) is-own.3
+      value-here = ap (λ (s : Slot). s.value) is-root.3
 
       size-here : length (slots_of atoms part) ≡ first.size
-      size-here = let e = ap length is-own.2 in let f = ap (λ (s : Slot). s.size) is-own.3 in omega (arith, e, f)
+      size-here = let e = ap length is-root.2 in let f = ap (λ (s : Slot). s.size) is-root.3 in omega (arith, e, f)
 
       pub size-fits : first.size ≤ length rest
       size-fits = let e = ap length from-here in let f = length-append (slots_of atoms part) (flat_map (slots_of atoms) (drop (i + 1) parts) ++ starts.0) in let g = size-here in omega (arith, e, f, g)
 
-      pub starts-next : (after : List Slot) → after ≡ drop first.size rest → StartsWith after (flat_map (slots_of atoms) (drop (i + 1) parts))
-      starts-next after goes = (starts.0, goes ∙ ap (drop first.size) from-here ∙ drop_at (slots_of atoms part) _ first.size size-here)
+      pub starts-next : (left : List Slot) → left ≡ drop first.size rest → StartsWith left (flat_map (slots_of atoms) (drop (i + 1) parts))
+      starts-next left goes = (starts.0, goes ∙ ap (drop first.size) from-here ∙ drop_at (slots_of atoms part) _ first.size size-here)
 
 any-push : {E : Type 0} (p : E → Bool) (f : Node → E) (ps : List Node) (part : Node) → list_any p (map f (ps ++ part ∷ [])) ≡ (list_any p (map f ps) || p (f part))
 any-push p f [] part = or-false (p (f part))

@@ -5,7 +5,7 @@ use Rattle.ft_linear.specs.Form.{InArea, span_at}
 use Rattle.ft_diff.specs.Narrowing.{Narrows, highs}
 use Rattle.ft_diff.proofs.NarrowingLemmas.{lowered, lowered-high, barred}
 use mir.Val.{SFits}
-use Rattle.ft_diff.proofs.narrowing.lower.Goals as goal
+use Rattle.ft_diff.proofs.narrowing.tighten_upper_bound.Goals as goal
 
 span-is : (c : goal.In-Some) → c.index-spans-unknown.result ≡ span_at c.args.spans.now c.args.unknown
 span-is c = c.index-spans-unknown.is ∙ get_or_default c.args.spans.now c.args.unknown c.index-spans-unknown.result (pos 0, pos 0) c.requires.within
