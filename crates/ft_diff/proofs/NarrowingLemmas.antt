@@ -9,12 +9,12 @@ use Rattle.std.proofs.lemmas.List.Elements.{All-more, All-take}
 use Rattle.std.proofs.lemmas.List.Sums.{sum_by-set}
 use Rattle.std.proofs.lemmas.Option.{get_or_from_slice_get, slice_get-get_or, slice_get_within}
 use Rattle.ft_base.specs.Interval.{IsWithin}
-use Rattle.ft_linear.specs.Form.{InArea, span_at, values_at}
+use Rattle.ft_linear.specs.meaning.Form.{InArea, span_at, values_at}
 use Rattle.ft_diff.specs.declared.diff.Diff.{Diff}
 use Rattle.ft_diff.specs.declared.narrowing.Step.{Step}
 use Rattle.ft_diff.specs.declared.narrowing.Step.TheVariants.{Met, Lowered, Barred}
-use Rattle.ft_diff.specs.Differences.{IsOver, HasUnknown, Meets, number_at}
-use Rattle.ft_diff.specs.Narrowing.{HasOutcome, Narrows, highs, room_below, combined, is_barred}
+use Rattle.ft_diff.specs.meaning.Differences.{IsOver, HasUnknown, Meets, number_at}
+use Rattle.ft_diff.specs.narrowing.Outcome.{HasOutcome, Narrows, highs, room_below, combined, is_barred}
 
 -- by number instead of by look-up
 pub of-area : (spans : List (ℤ × ℤ)) (x : ℕ → ℤ) (u : ℕ) → InArea spans x → u < length spans → IsWithin (span_at spans u) (x u)

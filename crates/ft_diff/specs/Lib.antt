@@ -1,2 +1,2 @@
-pub mod Differences
-pub mod Narrowing
+pub mod meaning
+pub mod narrowing

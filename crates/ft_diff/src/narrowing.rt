@@ -2,10 +2,10 @@
 // one that falls below its least number leaves no solution.
 
 ghost use Rattle.std.specs.Prelude.{◌≡◌, ◌≤◌, ◌<◌, ◌+ℤ◌, ◌≤ℤ◌, ◌<ℤ◌, length, unsigned_abs, All, IfSome, IfNone};
-ghost use Rattle.ft_linear.specs.Bounds.{value_most};
-ghost use Rattle.ft_linear.specs.Form.{InArea};
-ghost use Rattle.ft_diff.specs.Differences.{IsOver, HasUnknown, Meets, number_at, difference_most};
-ghost use Rattle.ft_diff.specs.Narrowing.{HasOutcome, highs, combined, is_barred};
+ghost use Rattle.ft_linear.specs.meaning.Bounds.{value_most};
+ghost use Rattle.ft_linear.specs.meaning.Form.{InArea};
+ghost use Rattle.ft_diff.specs.meaning.Differences.{IsOver, HasUnknown, Meets, number_at, difference_most};
+ghost use Rattle.ft_diff.specs.narrowing.Outcome.{HasOutcome, highs, combined, is_barred};
 
 use crate::diff::Diff;
 use ft_base::Span;
@@ -52,7 +52,13 @@ fn cut(span: Span, bound: i64) -> Option<Span>
 }
 
 // An unknown is at most this bound, by the line at this place.
-fn tighten_upper_bound(spans: &mut [Span], lowered_by: &mut [usize], unknown: u32, bound: i64, at: usize) -> Step
+fn tighten_upper_bound(
+    spans: &mut [Span],
+    lowered_by: &mut [usize],
+    unknown: u32,
+    bound: i64,
+    at: usize,
+) -> Step
     requires places { length lowered_by.old ≡ length spans.old }
     requires within { unknown < length spans.old }
     requires high { InArea spans.old (highs spans.old) }

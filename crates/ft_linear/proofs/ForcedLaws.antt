@@ -9,10 +9,10 @@ use Rattle.ft_linear.specs.declared.node.Node.{Node}
 use Rattle.ft_linear.specs.declared.node.Node.TheVariants.{And, Or}
 use Rattle.ft_base.specs.declared.three.Three.{Three}
 use Rattle.ft_base.specs.declared.three.Three.TheVariants.{No, Maybe, Yes}
-use Rattle.ft_linear.specs.Truth.{truth}
-use Rattle.ft_linear.specs.Forced.{Seen, seen, value_of, forces, and_forces, or_forces, by_each, by_only, same_bool}
+use Rattle.ft_linear.specs.meaning.Truth.{truth}
+use Rattle.ft_linear.specs.meaning.Forced.{Seen, seen, value_of, forces, and_forces, or_forces, by_each, by_only, same_bool}
 use Rattle.ft_base.specs.Three.{three_all, three_any, three_not, can_be, is_no, is_yes}
-use Rattle.ft_linear.specs.Nodes.{With, bare, Inductive, node_induction, list_any-map, map-map, truth-At, truth-Not, truth-And, truth-Or, value-At, value-Not, value-And, value-Or, forces-At, forces-Not, forces-And, forces-Or}
+use Rattle.ft_linear.specs.laws.Nodes.{With, bare, Inductive, node_induction, list_any-map, map-map, truth-At, truth-Not, truth-And, truth-Or, value-At, value-Not, value-And, value-Or, forces-At, forces-Not, forces-And, forces-Or}
 
 -- a value that is open says nothing
 abbrev pub Agrees : Three → Bool → Type 0

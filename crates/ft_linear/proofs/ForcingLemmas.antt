@@ -8,10 +8,10 @@ use Rattle.ft_linear.specs.declared.node.Node.TheVariants.{At, Not, And, Or}
 use Rattle.ft_base.specs.declared.three.Three.{Three}
 use Rattle.ft_linear.specs.declared.forcing.Slot.{Slot}
 use Rattle.ft_linear.specs.declared.forcing.Signs.{Signs}
-use Rattle.ft_linear.specs.Forced.{Seen, seen, value_of, forces, same_bool, and_forces, or_forces, by_only}
+use Rattle.ft_linear.specs.meaning.Forced.{Seen, seen, value_of, forces, same_bool, and_forces, or_forces, by_only}
 use Rattle.ft_base.specs.Three.{can_be}
-use Rattle.ft_linear.specs.Slots.{slots_of, only_of, StartsWith, Adds}
-use Rattle.ft_linear.specs.Nodes.{forces-At, forces-Not, forces-And, forces-Or}
+use Rattle.ft_linear.specs.judging.Slots.{slots_of, only_of, StartsWith, Adds}
+use Rattle.ft_linear.specs.laws.Nodes.{forces-At, forces-Not, forces-And, forces-Or}
 use Rattle.ft_linear.proofs.ForcedLaws.{count-map}
 use Rattle.ft_linear.proofs.SlotLemmas.{fronted, node_slot, slots-Not, slots-And, slots-Or, adds-none, adds-same, adds-then}
 use Rattle.std.proofs.Math.Bool.{or-false, or_assoc}

@@ -12,13 +12,14 @@ use Rattle.ft_base.specs.declared.three.Three.{Three}
 use Rattle.ft_base.specs.declared.three.Three.TheVariants.{Maybe}
 use Rattle.ft_linear.specs.declared.node.Node.{Node}
 use Rattle.ft_linear.specs.declared.forcing.Signs.{Signs}
-use Rattle.ft_linear.specs.Formula.{FormulaView}
-use Rattle.ft_linear.specs.Forced.{forces}
-use Rattle.ft_linear.specs.Part.{PartView, decision, fixed, fixed_form, value_by, atom_value, is_forced_both, atoms_of}
-use Rattle.ft_linear.specs.Slots.{value_at, slots_of, Adds, with_more}
-use Rattle.ft_linear.specs.Form.{LinView}
-use Rattle.ft_linear.specs.Marks.{size_of, signs_of, decided_at}
-use Rattle.ft_linear.specs.Nodes.{With, bare, node_induction, list_any-map, size-At, size-Not, size-And, size-Or}
+use Rattle.ft_linear.specs.meaning.Formula.{FormulaView}
+use Rattle.ft_linear.specs.meaning.Forced.{forces}
+use Rattle.ft_linear.specs.meaning.Part.{PartView, decision, fixed, fixed_form, value_by, atom_value, is_forced_both, atoms_of}
+use Rattle.ft_linear.specs.judging.Slots.{value_at, slots_of, Adds, with_more}
+use Rattle.ft_linear.specs.meaning.Form.{LinView}
+use Rattle.ft_linear.specs.meaning.Marks.{size_of, signs_of}
+use Rattle.ft_linear.specs.judging.Weighing.{decided_at}
+use Rattle.ft_linear.specs.laws.Nodes.{With, bare, node_induction, list_any-map, size-At, size-Not, size-And, size-Or}
 use Rattle.ft_linear.proofs.SlotLemmas.{slots-At, slots-Not, slots-And, slots-Or}
 use Rattle.std.proofs.Math.Bool.{or-false, or_assoc}
 

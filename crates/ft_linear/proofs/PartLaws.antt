@@ -10,12 +10,12 @@ use Rattle.std.proofs.lemmas.List.Elements.{All-head, All-tail}
 use Rattle.ft_base.specs.Interval.{IsWithin}
 use Rattle.ft_base.specs.declared.three.Three.{Three}
 use Rattle.ft_base.specs.declared.three.Three.TheVariants.{No, Maybe, Yes}
-use Rattle.ft_linear.specs.Form.{LinView, Factor, sum_at, InArea, span_at, HasUnknowns, most, least, high_end, low_end}
-use Rattle.ft_linear.specs.Formula.{FormulaView, atom_at, form_truth, Satisfies, IsOver}
-use Rattle.ft_linear.specs.Truth.{truth}
-use Rattle.ft_linear.specs.Forced.{value_of}
+use Rattle.ft_linear.specs.meaning.Form.{LinView, Factor, sum_at, InArea, span_at, HasUnknowns, most, least, high_end, low_end}
+use Rattle.ft_linear.specs.meaning.Formula.{FormulaView, atom_at, form_truth, Satisfies, IsOver}
+use Rattle.ft_linear.specs.meaning.Truth.{truth}
+use Rattle.ft_linear.specs.meaning.Forced.{value_of}
 use Rattle.ft_base.specs.Three.{is_yes, is_no}
-use Rattle.ft_linear.specs.Part.{PartView, agrees, is_against, is_forced_both, fixed_form, fixed, decision, value_by, atom_value, is_decision, forced, against, atoms_of, truth_of, PointOf}
+use Rattle.ft_linear.specs.meaning.Part.{PartView, agrees, is_against, is_forced_both, fixed_form, fixed, decision, value_by, atom_value, is_decision, forced, against, atoms_of, truth_of, PointOf}
 use Rattle.ft_linear.proofs.ForcedLaws.{Agrees, SoundAtoms, no-false, yes-true, value_agrees, forced_so, same-bools}
 use Rattle.ft_linear.proofs.Whole.{times-up, times-down}
 

@@ -13,11 +13,11 @@ use Rattle.ft_base.specs.Interval.{IsWithin}
 use Rattle.ft_base.specs.Division.{floor_of}
 use Rattle.ft_linear.specs.declared.lines.Line.{Line}
 use Rattle.ft_linear.specs.declared.lines.Line.TheVariants.{Atom, Upper, Lower}
-use Rattle.ft_linear.specs.Form.{Factor, LinView, AreRising, InArea, sum_at, form_at, span_at, scaled}
-use Rattle.ft_linear.specs.Formula.{FormulaView, form_truth}
-use Rattle.ft_linear.specs.Part.{PartView, forced}
-use Rattle.ft_linear.specs.Rules.{Contradicts, HoldsForced, Tightens, is_line, is_multiplier, line_form, literal_form, upper_form, lower_form, times_of, factor_of, factors_in, constant_in, total_factor, total_constant, narrowed, up_to, down_to}
-use Rattle.ft_linear.specs.Cancelling.{is_kept, is_cancelled, are_cancelled}
+use Rattle.ft_linear.specs.meaning.Form.{Factor, LinView, AreRising, InArea, sum_at, form_at, span_at, scaled}
+use Rattle.ft_linear.specs.meaning.Formula.{FormulaView, form_truth}
+use Rattle.ft_linear.specs.meaning.Part.{PartView, forced}
+use Rattle.ft_linear.specs.meaning.Rules.{Contradicts, HoldsForced, Tightens, is_line, is_multiplier, line_form, literal_form, upper_form, lower_form, times_of, factor_of, factors_in, constant_in, total_factor, total_constant, narrowed, up_to, down_to}
+use Rattle.ft_linear.specs.summing.Cancelling.{is_kept, is_cancelled, are_cancelled}
 use Rattle.ft_linear.proofs.Whole.{times-up, mul-add, neg-mul, mul-neg, under-floor}
 use Rattle.ft_linear.proofs.UnknownLemmas.{cancels, alone, sum-append, sum-scaled, times-none, equal-to-itself, not-equal, factor_of-append, factor_of-scaled, factor_of-negated, sum-negated}
 use Rattle.ft_linear.proofs.Basics.{is-zero}

@@ -16,10 +16,10 @@ use Rattle.ft_base.specs.declared.three.Three.{Three}
 use Rattle.ft_base.specs.declared.three.Three.TheVariants.{No, Maybe, Yes}
 use Rattle.ft_linear.specs.declared.forcing.Slot.{Slot}
 use Rattle.ft_linear.specs.declared.forcing.Signs.{Signs}
-use Rattle.ft_linear.specs.Forced.{value_of}
+use Rattle.ft_linear.specs.meaning.Forced.{value_of}
 use Rattle.ft_base.specs.Three.{three_not, three_all, three_any, can_be, is_no, is_yes, all_by, any_by}
-use Rattle.ft_linear.specs.Slots.{Marked, marked, layer_slots, slots_of, only_of, IsWritten, Adds, with_more}
-use Rattle.ft_linear.specs.Nodes.{With, bare, node_induction, folds, value-At, value-Not, value-And, value-Or}
+use Rattle.ft_linear.specs.judging.Slots.{Marked, marked, layer_slots, slots_of, only_of, IsWritten, Adds, with_more}
+use Rattle.ft_linear.specs.laws.Nodes.{With, bare, node_induction, folds, value-At, value-Not, value-And, value-Or}
 use Rattle.ft_linear.proofs.ForcedLaws.{count-cons, count-yes, count-no}
 use Rattle.std.proofs.Math.Bool.{or-false, or_assoc}
 

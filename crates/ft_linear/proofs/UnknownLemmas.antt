@@ -4,8 +4,8 @@ use Rattle.std.specs.Prelude.{nat_eq}
 use Rattle.std.proofs.lemmas.Bool.{cases_Bool, eqb-true}
 use Rattle.std.proofs.lemmas.Int.{ints}
 use Rattle.std.proofs.Math.IntN.{suc_ℤ-*ℤ, zero-*ℤ}
-use Rattle.ft_linear.specs.Form.{Factor, scaled, sum_at}
-use Rattle.ft_linear.specs.Rules.{factor_of}
+use Rattle.ft_linear.specs.meaning.Form.{Factor, scaled, sum_at}
+use Rattle.ft_linear.specs.meaning.Rules.{factor_of}
 use Rattle.ft_linear.proofs.Whole.{add-mul, mul-add, neg-mul}
 use Rattle.ft_linear.proofs.Basics.{opposites}
 

@@ -2,8 +2,8 @@
 ghost use Rattle.std.specs.Prelude.{◌≡◌, ◌≤◌, ◌+◌, ℕ, Bool, true, length, drop, take, List, nat_eq, ◌&&◌, ◌++◌, map, count_by, slice_get, option_map, ◌||◌, not, cond, slice_set, ◌-◌, Some};
 ghost use Rattle.std.specs.List.{flat_map, list_any};
 ghost use Rattle.ft_base.specs.Three.{is_no, is_yes, can_be, three_all, three_any};
-ghost use Rattle.ft_linear.specs.Forced.{forces, value_of, parts_force, same_bool, by_each, by_only, seen};
-ghost use Rattle.ft_linear.specs.Slots.{value_at, slots_of, only_of, IsWritten, StartsWith, Adds, with_more};
+ghost use Rattle.ft_linear.specs.meaning.Forced.{forces, value_of, parts_force, same_bool, by_each, by_only, seen};
+ghost use Rattle.ft_linear.specs.judging.Slots.{value_at, slots_of, only_of, IsWritten, StartsWith, Adds, with_more};
 
 use crate::node::Node;
 use ft_base::Three;

@@ -1,10 +1,10 @@
 ghost use Rattle.std.specs.Prelude.{◌≡◌, ◌↔◌, IsTrue, ◌≤◌, ◌+ℤ◌, ◌*ℤ◌, ℤ, true, length, All, unsigned_abs, slice_get, int_le};
 ghost use Rattle.std.specs.Option.{SomeIff};
 ghost use Rattle.std.specs.List.{list_all, list_any};
-ghost use Rattle.ft_linear.specs.Form.{LinView, IsSmall, HasUnknowns, values_at, form_at, sum_at};
-ghost use Rattle.ft_linear.specs.Truth.{truth};
-ghost use Rattle.ft_linear.specs.Formula.{atom_at, atoms_below, form_truth, IsOver, truth_at};
-ghost use Rattle.ft_linear.specs.Evaluate.{CanEvaluate};
+ghost use Rattle.ft_linear.specs.meaning.Form.{LinView, IsSmall, HasUnknowns, values_at, form_at, sum_at};
+ghost use Rattle.ft_linear.specs.meaning.Truth.{truth};
+ghost use Rattle.ft_linear.specs.meaning.Formula.{atom_at, atoms_below, form_truth, IsOver, truth_at};
+ghost use Rattle.ft_linear.specs.judging.Evaluation.{CanEvaluate};
 
 use crate::lin::Lin;
 use crate::node::Node;
@@ -22,7 +22,7 @@ impl Model for Formula {
     ghost use Rattle.std.specs.Prelude.{◌≡◌, true, length};
     ghost use Rattle.std.specs.Coded.{codes};
     ghost use Rattle.ft_linear.specs.contracts.node.Node as node;
-    ghost use Rattle.ft_linear.specs.Formula.{FormulaView, atoms_below};
+    ghost use Rattle.ft_linear.specs.meaning.Formula.{FormulaView, atoms_below};
 
     ghost Value = { FormulaView };
 

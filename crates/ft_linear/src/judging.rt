@@ -3,11 +3,12 @@
 ghost use Rattle.std.specs.Prelude.{◌≡◌, ◌<◌, ◌&&◌, ◌||◌, ℕ, ℤ, Bool, true, false, length, slice_get, if◌then◌else◌};
 ghost use Rattle.std.specs.List.{list_any, list_all};
 ghost use Rattle.ft_base.specs.declared.three.Three.TheVariants.{No, Maybe, Yes};
-ghost use Rattle.ft_linear.specs.Formula.{IsOver, Satisfies, atom_at};
+ghost use Rattle.ft_linear.specs.meaning.Formula.{IsOver, Satisfies, atom_at};
 ghost use Rattle.ft_base.specs.Three.{is_no, is_yes};
-ghost use Rattle.ft_linear.specs.Part.{PointOf, against, agrees, atom_value, atoms_of, forced, is_against, is_agreed, is_forced_both, truth_of, value_by};
-ghost use Rattle.ft_linear.specs.Marks.{AreFor, AreJudged, CanWeigh, decided_at, decided_signs, signs_of, size_of};
-ghost use Rattle.ft_linear.specs.Form.{InArea};
+ghost use Rattle.ft_linear.specs.meaning.Part.{PointOf, against, agrees, atom_value, atoms_of, forced, is_against, is_agreed, is_forced_both, truth_of, value_by};
+ghost use Rattle.ft_linear.specs.meaning.Marks.{AreFor, AreJudged, signs_of, size_of};
+ghost use Rattle.ft_linear.specs.judging.Weighing.{CanWeigh, decided_at, decided_signs};
+ghost use Rattle.ft_linear.specs.meaning.Form.{InArea};
 
 use crate::forcing::{Signs, Slot, mark_forced};
 use crate::formula::Formula;

@@ -1,4 +1,4 @@
-ghost use Rattle.ft_linear.specs.FormLaws.{FactorsAreSmall, LiteralsHold, DividedHolds, QuotientIsExact};
+ghost use Rattle.ft_linear.specs.laws.Forms.{FactorsAreSmall, LiteralsHold, DividedHolds, QuotientIsExact};
 
 /// The factors of a form are small. The form of a literal says what the literal does, and a form divided by a number, with
 /// its constant rounded up, what the form does.

@@ -1,7 +1,7 @@
 ghost use Rattle.std.specs.Prelude.{◌≡◌, ◌≢◌, ◌≤◌, ◌↔◌, IsTrue, pos, length, unsigned_abs, All};
 ghost use Rattle.std.specs.Option.{SomeIff};
-ghost use Rattle.ft_linear.specs.Form.{IsProper, IsSmall, AreRising, HasUnknowns, values_at, form_at};
-ghost use Rattle.ft_linear.specs.Part.{fixed_form};
+ghost use Rattle.ft_linear.specs.meaning.Form.{IsProper, IsSmall, AreRising, HasUnknowns, values_at, form_at};
+ghost use Rattle.ft_linear.specs.meaning.Part.{fixed_form};
 
 use crate::sums::{least_of, most_of, sum_of, whole};
 use ft_base::{List, Span, Three};
@@ -21,7 +21,7 @@ pub struct Lin {
 }
 
 impl Model for Lin {
-    ghost use Rattle.ft_linear.specs.Form.{LinView, IsProper};
+    ghost use Rattle.ft_linear.specs.meaning.Form.{LinView, IsProper};
 
     ghost Value = { LinView };
 

@@ -1,11 +1,11 @@
 // The lines of a sum: forced literals and bounds, each with its form and its multiplier.
 
 ghost use Rattle.std.specs.Prelude.{◌≡◌, ◌≤◌, ◌<◌, ◌+◌, ◌&&◌, ◌-ℤ◌, neg_ℤ, pos, true, [], ◌∷◌, length, slice_get, unsigned_abs, is_some, if◌then◌else◌};
-ghost use Rattle.ft_linear.specs.Bounds.{line_most};
-ghost use Rattle.ft_linear.specs.Form.{AreRising, IsSmall, span_at};
-ghost use Rattle.ft_linear.specs.Part.{forced};
-ghost use Rattle.ft_linear.specs.Marks.{AreFor, AreJudged};
-ghost use Rattle.ft_linear.specs.Rules.{are_lines, constant_in, factor_of, factors_in, is_line, is_multiplier, line_form, times_of};
+ghost use Rattle.ft_linear.specs.meaning.Bounds.{line_most};
+ghost use Rattle.ft_linear.specs.meaning.Form.{AreRising, IsSmall, span_at};
+ghost use Rattle.ft_linear.specs.meaning.Part.{forced};
+ghost use Rattle.ft_linear.specs.meaning.Marks.{AreFor, AreJudged};
+ghost use Rattle.ft_linear.specs.meaning.Rules.{are_lines, constant_in, factor_of, factors_in, is_line, is_multiplier, line_form, times_of};
 
 use crate::formula::Formula;
 use crate::marks::Marks;
@@ -150,8 +150,14 @@ pub fn line_factor(formula: &Formula, part: &Part, line: &Line, unknown: u32) ->
             value,
             factor_of(formula.atoms()[number as usize].factors(), unknown),
         ),
-        Line::Upper { unknown: bounded, .. } => unit_factor(bounded, unknown, 1),
-        Line::Lower { unknown: bounded, .. } => unit_factor(bounded, unknown, -1),
+        Line::Upper {
+            unknown: bounded,
+            ..
+        } => unit_factor(bounded, unknown, 1),
+        Line::Lower {
+            unknown: bounded,
+            ..
+        } => unit_factor(bounded, unknown, -1),
     }
 }
 

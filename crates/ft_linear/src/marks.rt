@@ -1,6 +1,6 @@
 ghost use Rattle.std.specs.Prelude.{◌≡◌, ◌+◌, ◌<◌, length, map, sum, slice_get, IfOk, OnOk};
 ghost use Rattle.std.specs.Option.{option_map};
-ghost use Rattle.ft_linear.specs.Marks.{MarksView, size_of, literal_of, sign_of};
+ghost use Rattle.ft_linear.specs.meaning.Marks.{MarksView, size_of, literal_of, sign_of};
 
 use crate::forcing::{Signs, Slot};
 use crate::formula::Formula;
@@ -21,7 +21,7 @@ pub struct Marks {
 
 impl Model for Marks {
     ghost use Rattle.std.specs.Prelude.{length};
-    ghost use Rattle.ft_linear.specs.Marks.{MarksView};
+    ghost use Rattle.ft_linear.specs.meaning.Marks.{MarksView};
 
     ghost Value = { MarksView };
 

@@ -8,11 +8,11 @@ ghost use Rattle.std.specs.Prelude.{◌≡◌, ◌≤◌, ◌<◌, ◌+◌, ◌*
 ghost use Rattle.std.specs.List.{list_all};
 ghost use Rattle.ft_base.specs.Interval.{IsWithin};
 ghost use Rattle.ft_base.specs.Division.{floor_of};
-ghost use Rattle.ft_linear.specs.Bounds.{line_most, line_product_most, line_sum_most, times_most};
-ghost use Rattle.ft_linear.specs.Form.{InArea, span_at};
-ghost use Rattle.ft_linear.specs.Marks.{AreFor, AreJudged};
-ghost use Rattle.ft_linear.specs.Rules.{Contradicts, HoldsForced, Tightens, are_lines, factors_in, is_line, line_form, narrowed, down_to, up_to, total_constant, total_factor};
-ghost use Rattle.ft_linear.specs.Cancelling.{is_kept, is_cancelled, are_cancelled};
+ghost use Rattle.ft_linear.specs.meaning.Bounds.{line_most, line_product_most, line_sum_most, times_most};
+ghost use Rattle.ft_linear.specs.meaning.Form.{InArea, span_at};
+ghost use Rattle.ft_linear.specs.meaning.Marks.{AreFor, AreJudged};
+ghost use Rattle.ft_linear.specs.meaning.Rules.{Contradicts, HoldsForced, Tightens, are_lines, factors_in, is_line, line_form, narrowed, down_to, up_to, total_constant, total_factor};
+ghost use Rattle.ft_linear.specs.summing.Cancelling.{is_kept, is_cancelled, are_cancelled};
 
 use crate::formula::Formula;
 use crate::lines::{Line, are_lines, line_constant, line_factor, times_of};

@@ -2,8 +2,8 @@
 // 10,000 factors is far inside an i128.
 
 ghost use Rattle.std.specs.Prelude.{◌≡◌, ◌≤◌, ◌<◌, ◌+◌, ◌*◌, ◌+ℤ◌, ◌*ℤ◌, length, unsigned_abs, All};
-ghost use Rattle.ft_linear.specs.Bounds.{product_most, sum_most};
-ghost use Rattle.ft_linear.specs.Form.{IsSmall, AreRising, HasUnknowns, values_at, sum_at, most, least, high_end, low_end};
+ghost use Rattle.ft_linear.specs.meaning.Bounds.{product_most, sum_most};
+ghost use Rattle.ft_linear.specs.meaning.Form.{IsSmall, AreRising, HasUnknowns, values_at, sum_at, most, least, high_end, low_end};
 
 use ft_base::Span;
 

@@ -2,7 +2,7 @@
 use Rattle.std.proofs.Common.{◌≡◌, ℕ, zero, suc, ◌+◌, ◌<◌, ◌≤◌, List, [], ◌∷◌, ◌++◌, length, take, refl, ap, ◌∙◌, arith}
 use Rattle.std.specs.Prelude.{slice_set}
 use Rattle.std.proofs.lemmas.List.{length-take-le}
-use Rattle.ft_pool.specs.Places.{put_at}
+use Rattle.ft_pool.specs.block.Places.{put_at}
 
 one_more : (n : ℕ) → n + 1 ≡ suc n
 one_more n = omega arith

@@ -1,6 +1,6 @@
 //! The region. The functions of `block` alone touch its memory.
 ghost use Rattle.std.specs.Prelude.{◌≡◌, ◌+◌, ◌-◌, ◌<◌, ◌≤◌, [], ◌∷◌, ◌++◌, length, slice_get, slice_set, take, Some, IfOk};
-ghost use Rattle.ft_pool.specs.Region.{region};
+ghost use Rattle.ft_pool.specs.meaning.Region.{region};
 
 use crate::block::{Cells, Start, fits_block};
 use crate::id::{Id, Mark};
@@ -20,7 +20,7 @@ pub struct Pool<T> {
 
 impl<T> Model for Pool<T> {
     ghost use Rattle.std.specs.Prelude.{◌≡◌, ◌-◌, ◌≤◌, length, take};
-    ghost use Rattle.ft_pool.specs.Region.{Region, region, region_code};
+    ghost use Rattle.ft_pool.specs.meaning.Region.{Region, region, region_code};
 
     ghost Value = { Region T };
 

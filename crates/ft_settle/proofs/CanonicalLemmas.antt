@@ -9,15 +9,15 @@ use Rattle.std.proofs.lemmas.List.{take_more, take_all}
 use Rattle.std.proofs.lemmas.Nat.Gcd.{dvd_refl, dvd-zero, dvd_trans, dvd_antisymm, le_of_dvd, dvd_of_mod-eq-zero, mod-eq-zero_of_dvd}
 use Rattle.std.proofs.Math.Nat.{div-le_self}
 use Rattle.ft_base.specs.Division.{floor_of}
-use Rattle.ft_linear.specs.Bounds.{value_most}
-use Rattle.ft_linear.specs.Forced.{same_bool}
-use Rattle.ft_linear.specs.Form.{Factor, LinView, AreRising, IsSmall, sum_at, scaled, form_at}
-use Rattle.ft_linear.specs.Rules.{literal_form}
+use Rattle.ft_linear.specs.meaning.Bounds.{value_most}
+use Rattle.ft_linear.specs.meaning.Forced.{same_bool}
+use Rattle.ft_linear.specs.meaning.Form.{Factor, LinView, AreRising, IsSmall, sum_at, scaled, form_at}
+use Rattle.ft_linear.specs.meaning.Rules.{literal_form}
 use Rattle.ft_settle.specs.meaning.Canonical.{divides_all, greatest_divisor, gcd_of, divided, canonical, is_positive}
 use Rattle.ft_settle.specs.settling.Factors.{begins_well, quotient_of}
-use Rattle.ft_linear.specs.Nodes.{map-map}
+use Rattle.ft_linear.specs.laws.Nodes.{map-map}
 use Rattle.std.proofs.Math.IntN.{*ℤ-zero, *ℤ-negsuc}
-use Rattle.ft_linear.specs.FormLaws.{LiteralsHold, DividedHolds, QuotientIsExact}
+use Rattle.ft_linear.specs.laws.Forms.{LiteralsHold, DividedHolds, QuotientIsExact}
 
 abbrev pub DividesEach : ℕ → List Factor → Type 0
 DividesEach d [] = Unit {0}

@@ -9,12 +9,12 @@ use Rattle.ft_linear.specs.declared.node.Node.TheVariants as node
 use Rattle.ft_settle.specs.declared.raw.Raw.{Raw, Raw-F, map-Raw, fold-Raw, roll-Raw, fold-roll-Raw, ind-Raw}
 use Rattle.ft_settle.specs.declared.raw.Raw.TheOpen as layer
 use Rattle.ft_settle.specs.declared.raw.Raw.TheVariants.{Le, Not, And, Or, rolls-Le, rolls-Not, rolls-And, rolls-Or}
-use Rattle.ft_linear.specs.Form.{LinView, form_at}
-use Rattle.ft_linear.specs.Truth.{itself}
+use Rattle.ft_linear.specs.meaning.Form.{LinView, form_at}
+use Rattle.ft_linear.specs.meaning.Truth.{itself}
 use Rattle.ft_settle.specs.meaning.Raw.{raw_truth, layer_raw_truth, is_moderate, layer_moderate}
 use Rattle.ft_settle.specs.meaning.Settled.{forms_of, layer_atoms, atoms_in, placed, layer_placed, placed_form}
 use Rattle.ft_settle.specs.settling.Factors.{all_begin_well, layer_begins, begins_well}
-use Rattle.ft_linear.specs.Nodes.{list_any-map}
+use Rattle.ft_linear.specs.laws.Nodes.{list_any-map}
 
 -- a formula of which P holds
 abbrev pub WithRaw : (Raw → Type 0) → Type 0

@@ -14,15 +14,15 @@ use Rattle.ft_linear.specs.declared.node.Node.{Node}
 use Rattle.ft_linear.specs.declared.node.Node.TheVariants as node
 use Rattle.ft_settle.specs.declared.raw.Raw.{Raw}
 use Rattle.ft_settle.specs.declared.raw.Raw.TheVariants.{Le, Not, And, Or}
-use Rattle.ft_linear.specs.Form.{Factor, LinView, form_at, sum_at}
-use Rattle.ft_linear.specs.Truth.{truth}
-use Rattle.ft_linear.specs.FormLaws.{LiteralsHold, DividedHolds, QuotientIsExact}
-use Rattle.ft_linear.specs.Formula.{atoms_below, atom_at, form_truth}
+use Rattle.ft_linear.specs.meaning.Form.{Factor, LinView, form_at, sum_at}
+use Rattle.ft_linear.specs.meaning.Truth.{truth}
+use Rattle.ft_linear.specs.laws.Forms.{LiteralsHold, DividedHolds, QuotientIsExact}
+use Rattle.ft_linear.specs.meaning.Formula.{atoms_below, atom_at, form_truth}
 use Rattle.ft_settle.specs.meaning.Canonical.{canonical, is_positive}
 use Rattle.ft_settle.specs.meaning.Raw.{raw_truth}
 use Rattle.ft_settle.specs.meaning.Settled.{same_factor, same_form, with_form, with_forms, atoms_in, forms_of, place_of, placed, placed_form}
 use Rattle.ft_settle.specs.settling.Factors.{all_begin_well, begins_well}
-use Rattle.ft_linear.specs.Nodes.{list_any-map, truth-At, truth-Not, truth-And, truth-Or, below-At, below-Not, below-And, below-Or}
+use Rattle.ft_linear.specs.laws.Nodes.{list_any-map, truth-At, truth-Not, truth-And, truth-Or, below-At, below-Not, below-And, below-Or}
 use Rattle.ft_settle.proofs.CanonicalLemmas.{canonical-same}
 use Rattle.ft_settle.proofs.RawLemmas.{WithRaw, bare_raw, InductiveRaw, raw_induction, raw-Le, raw-Not, raw-And, raw-Or, begins-Le, begins-Not, begins-And, begins-Or, forms-Le, forms-Not, forms-And, forms-Or, placed-Le, placed-Not, placed-And, placed-Or}
 use Rattle.std.proofs.Math.Bool.{or-false, or_assoc}

@@ -3,8 +3,8 @@
 ghost use Rattle.std.specs.Prelude.{◌≡◌, ◌≤◌, ◌<◌, ◌↔◌, IsTrue, IfOk, ℕ, pos, neg_ℤ, ◌-ℤ◌, length, map, nat_le, unsigned_abs, true, if◌then◌else◌};
 ghost use Rattle.std.specs.Int.{IsGcd};
 ghost use Rattle.ft_base.specs.Division.{floor_of};
-ghost use Rattle.ft_linear.specs.Bounds.{value_most};
-ghost use Rattle.ft_linear.specs.Form.{AreRising, IsSmall};
+ghost use Rattle.ft_linear.specs.meaning.Bounds.{value_most};
+ghost use Rattle.ft_linear.specs.meaning.Form.{AreRising, IsSmall};
 ghost use Rattle.ft_settle.specs.meaning.Raw.{moderate_most};
 ghost use Rattle.ft_settle.specs.meaning.Canonical.{canonical, divided, gcd_of, is_positive};
 ghost use Rattle.ft_settle.specs.meaning.Settled.{same_form};

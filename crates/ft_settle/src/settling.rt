@@ -2,8 +2,8 @@
 
 ghost use Rattle.std.specs.Prelude.{◌≡◌, ◌≤◌, ◌<◌, IfOk, OnOk, ℕ, ℤ, pos, int_le, [], true, length, map, nat_le, unsigned_abs, if◌then◌else◌};
 ghost use Rattle.std.specs.List.{list_all, list_any, flat_map, position_or_len};
-ghost use Rattle.ft_linear.specs.Form.{values_at};
-ghost use Rattle.ft_linear.specs.Formula.{truth_at};
+ghost use Rattle.ft_linear.specs.meaning.Form.{values_at};
+ghost use Rattle.ft_linear.specs.meaning.Formula.{truth_at};
 ghost use Rattle.ft_settle.specs.meaning.Raw.{is_moderate, moderate_most, raw_truth};
 ghost use Rattle.ft_settle.specs.meaning.Canonical.{canonical};
 ghost use Rattle.ft_settle.specs.meaning.Settled.{atoms_in, forms_of, place_of, placed, placed_form, same_form, settled, with_form, with_forms};

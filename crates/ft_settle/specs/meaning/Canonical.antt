@@ -2,8 +2,8 @@
 use Rattle.std.specs.Prelude.{ℕ, zero, suc, ◌%◌, pos, neg_ℤ, int_lt, nat_eq, not, Bool, true, List, [], ◌∷◌, map, unsigned_abs, if◌then◌else◌}
 use Rattle.std.specs.List.{list_all}
 use Rattle.ft_base.specs.Division.{floor_of}
-use Rattle.ft_linear.specs.Form.{Factor, LinView}
-use Rattle.ft_linear.specs.Rules.{literal_form}
+use Rattle.ft_linear.specs.meaning.Form.{Factor, LinView}
+use Rattle.ft_linear.specs.meaning.Rules.{literal_form}
 
 -- the greatest number up to this one that divides each factor
 abbrev pub divides_all : ℕ → List Factor → Bool

@@ -1,8 +1,8 @@
 -- Formulas as they are built: their truth at points, and how great their constants may be.
 use Rattle.std.specs.Prelude.{ℕ, ℤ, pos, int_le, nat_le, not, Bool, unsigned_abs}
 use Rattle.std.specs.List.{list_all, list_any}
-use Rattle.ft_linear.specs.Form.{form_at}
-use Rattle.ft_linear.specs.Truth.{itself}
+use Rattle.ft_linear.specs.meaning.Form.{form_at}
+use Rattle.ft_linear.specs.meaning.Truth.{itself}
 use Rattle.ft_settle.specs.declared.raw.Raw.{Raw, Raw-F, fold-Raw}
 use Rattle.ft_settle.specs.declared.raw.Raw.TheOpen as layer
 

@@ -5,8 +5,8 @@ use Rattle.std.specs.Cmp.Lexicographic.{pointwise}
 use Rattle.std.specs.List.{list_any, flat_map, position_or_len}
 use Rattle.ft_linear.specs.declared.node.Node.{Node}
 use Rattle.ft_linear.specs.declared.node.Node.TheVariants as node
-use Rattle.ft_linear.specs.Form.{Factor, LinView}
-use Rattle.ft_linear.specs.Formula.{FormulaView}
+use Rattle.ft_linear.specs.meaning.Form.{Factor, LinView}
+use Rattle.ft_linear.specs.meaning.Formula.{FormulaView}
 use Rattle.ft_settle.specs.declared.raw.Raw.{Raw, Raw-F, fold-Raw}
 use Rattle.ft_settle.specs.declared.raw.Raw.TheOpen as layer
 use Rattle.ft_settle.specs.meaning.Canonical.{canonical}

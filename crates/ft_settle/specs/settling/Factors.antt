@@ -3,8 +3,8 @@ use Rattle.std.specs.Prelude.{ℕ, pos, neg_ℤ, not, Bool, true, List, [], ◌�
 use Rattle.std.specs.Ordering.{int_eq}
 use Rattle.std.specs.List.{list_all}
 use Rattle.ft_base.specs.Division.{floor_of}
-use Rattle.ft_linear.specs.Form.{Factor}
-use Rattle.ft_linear.specs.Truth.{itself}
+use Rattle.ft_linear.specs.meaning.Form.{Factor}
+use Rattle.ft_linear.specs.meaning.Truth.{itself}
 use Rattle.ft_settle.specs.declared.raw.Raw.{Raw, Raw-F, fold-Raw}
 use Rattle.ft_settle.specs.declared.raw.Raw.TheOpen as layer
 

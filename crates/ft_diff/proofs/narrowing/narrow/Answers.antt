@@ -1,7 +1,7 @@
 use Rattle.std.proofs.Common.{rules, arith, ◌≡◌, ◌+ℤ◌, ◌≤ℤ◌, ℤ, subst, w64}
 use Rattle.std.proofs.lemmas.Int.{ints, to_z-of_z}
-use Rattle.ft_diff.specs.Differences.{number_at}
-use Rattle.ft_diff.specs.Narrowing.{HasOutcome, highs}
+use Rattle.ft_diff.specs.meaning.Differences.{number_at}
+use Rattle.ft_diff.specs.narrowing.Outcome.{HasOutcome, highs}
 use Rattle.ft_diff.proofs.NarrowingLemmas.{below-bound, zero-barred}
 use mir.Val.{SFits}
 use Rattle.ft_diff.proofs.narrowing.narrow.Goals as goal

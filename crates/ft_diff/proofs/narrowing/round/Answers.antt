@@ -1,8 +1,8 @@
 use Rattle.std.proofs.Common.{arith, ◌∙◌, sym, subst, None, pos, ◌+◌, take, All}
 use Rattle.ft_diff.specs.declared.diff.Diff.{Diff}
 use Rattle.ft_diff.specs.declared.narrowing.Step.{Step}
-use Rattle.ft_diff.specs.Differences.{Meets}
-use Rattle.ft_diff.specs.Narrowing.{HasOutcome}
+use Rattle.ft_diff.specs.meaning.Differences.{Meets}
+use Rattle.ft_diff.specs.narrowing.Outcome.{HasOutcome}
 use Rattle.ft_diff.proofs.NarrowingLemmas.{one-more, all-done}
 use Rattle.ft_diff.proofs.narrowing.round.Goals as goal
 

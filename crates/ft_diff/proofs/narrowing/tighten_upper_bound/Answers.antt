@@ -1,8 +1,8 @@
 use Rattle.std.proofs.Common.{rules, arith, ◌≡◌, ◌∙◌, ◌<ℤ◌, ◌≤ℤ◌, ℤ, pos, ap, subst, sym, slice_set, w64}
 use Rattle.std.proofs.lemmas.Int.{ints, to_z-of_z}
 use Rattle.std.proofs.lemmas.List.{get_or_default}
-use Rattle.ft_linear.specs.Form.{InArea, span_at}
-use Rattle.ft_diff.specs.Narrowing.{Narrows, highs}
+use Rattle.ft_linear.specs.meaning.Form.{InArea, span_at}
+use Rattle.ft_diff.specs.narrowing.Outcome.{Narrows, highs}
 use Rattle.ft_diff.proofs.NarrowingLemmas.{lowered, lowered-high, barred}
 use mir.Val.{SFits}
 use Rattle.ft_diff.proofs.narrowing.tighten_upper_bound.Goals as goal

@@ -1,7 +1,7 @@
 use Rattle.std.proofs.Common.{rules, ◌≡◌, ◌∙◌, sym, ap, refl}
 use Rattle.ft_linear.specs.declared.node.Node.{the_lemmas}
 use Rattle.ft_linear.specs.declared.node.Node.TheVariants.{Not, And, Or}
-use Rattle.ft_linear.specs.Slots.{value_at}
+use Rattle.ft_linear.specs.judging.Slots.{value_at}
 use Rattle.ft_linear.proofs.ForcingLemmas.{some-slots, inner-Not, inner-And, inner-Or, root-And, root-Or, slots-left, value-here, size-fits, starts-next, adds-step, adds-At, adds-Not, adds-And, adds-Or, nothing-And, nothing-Or}
 use Rattle.ft_linear.proofs.forcing.+force_down.Goals as goal
 

@@ -1,5 +1,5 @@
 use Rattle.std.proofs.Common.{refl}
-use Rattle.ft_linear.specs.Nodes.{below-At, below-Not, below-And, below-Or}
+use Rattle.ft_linear.specs.laws.Nodes.{below-At, below-Not, below-And, below-Or}
 use Rattle.ft_linear.proofs.formula.+has_atoms_below.Goals as goal
 
 pub has_atoms_below-returns-in-At : goal.has_atoms_below-returns-in-At

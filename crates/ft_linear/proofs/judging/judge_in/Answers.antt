@@ -2,11 +2,11 @@ use Rattle.std.proofs.Common.{◌≡◌, ◌∙◌, ap, subst, arith, ◌||◌, 
 use Rattle.ft_base.specs.declared.three.Three.{Three}
 use Rattle.ft_base.specs.declared.three.Three.TheVariants.{No, Maybe, Yes}
 use Rattle.ft_linear.specs.declared.node.Node.{Node}
-use Rattle.ft_linear.specs.Forced.{value_of, forces}
+use Rattle.ft_linear.specs.meaning.Forced.{value_of, forces}
 use Rattle.ft_base.specs.Three.{is_no, is_yes}
-use Rattle.ft_linear.specs.Part.{atom_value}
-use Rattle.ft_linear.specs.Slots.{value_at, Adds}
-use Rattle.ft_linear.specs.Marks.{size_of}
+use Rattle.ft_linear.specs.meaning.Part.{atom_value}
+use Rattle.ft_linear.specs.judging.Slots.{value_at, Adds}
+use Rattle.ft_linear.specs.meaning.Marks.{size_of}
 use Rattle.ft_linear.proofs.MarksLemmas.{slots-fit, values-same, signs-are, any-both}
 use Rattle.ft_linear.proofs.judging.judge_in.Goals as goal
 

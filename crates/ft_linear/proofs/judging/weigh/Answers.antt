@@ -1,7 +1,7 @@
 use Rattle.std.proofs.Common.{◌∙◌, ap, refl, arith, length, slice_set}
 use Rattle.std.proofs.lemmas.Option.{slice_get_read}
-use Rattle.ft_linear.specs.Part.{atom_value, value_by, is_against, is_agreed, against, agrees}
-use Rattle.ft_linear.specs.Marks.{decided_at, decided_signs}
+use Rattle.ft_linear.specs.meaning.Part.{atom_value, value_by, is_against, is_agreed, against, agrees}
+use Rattle.ft_linear.specs.judging.Weighing.{decided_at, decided_signs}
 use Rattle.ft_linear.proofs.MarksLemmas.{written-more, any-more, all-more, atom-read}
 use Rattle.ft_linear.proofs.judging.weigh.Goals as goal
 

@@ -1,6 +1,6 @@
 use Rattle.std.proofs.Common.{rules, ◌∙◌, ap, neg_ℤ, cond, w64}
 use Rattle.std.proofs.lemmas.Int.{to_z-of_z}
-use Rattle.ft_linear.specs.Rules.{factor_of}
+use Rattle.ft_linear.specs.meaning.Rules.{factor_of}
 use Rattle.ft_linear.proofs.RuleLemmas.{literal-factor}
 use mir.Val.{SFits}
 use Rattle.ft_linear.proofs.lines.line_factor.Goals as goal

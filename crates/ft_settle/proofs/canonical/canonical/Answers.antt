@@ -3,8 +3,8 @@ use Rattle.std.specs.Prelude.{unsigned_abs}
 use Rattle.std.proofs.lemmas.Int.{to_z-of_z}
 use Rattle.std.proofs.lemmas.List.{length-map}
 use Rattle.ft_base.specs.Division.{floor_of}
-use Rattle.ft_linear.specs.Bounds.{value_most}
-use Rattle.ft_linear.specs.Form.{AreRising, IsSmall}
+use Rattle.ft_linear.specs.meaning.Bounds.{value_most}
+use Rattle.ft_linear.specs.meaning.Form.{AreRising, IsSmall}
 use Rattle.ft_settle.specs.meaning.Canonical.{gcd_of, is_positive}
 use Rattle.ft_settle.specs.settling.Factors.{quotient_of}
 use Rattle.ft_settle.proofs.CanonicalLemmas.{begins-well, gcd-divides, quotients-rise, quotients-are}

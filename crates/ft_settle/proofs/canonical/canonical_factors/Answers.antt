@@ -1,6 +1,6 @@
 use Rattle.std.proofs.Common.{pos, sym, subst, arith, slice_index_or, w64}
 use Rattle.std.proofs.lemmas.Int.{to_z-of_z, fits_signed_from_abs}
-use Rattle.ft_linear.specs.Form.{IsSmall}
+use Rattle.ft_linear.specs.meaning.Form.{IsSmall}
 use Rattle.ft_settle.proofs.canonical.canonical_factors.Goals as goal
 
 pub quotient-requires-clause-factor : goal.quotient-requires-clause-factor

@@ -1,7 +1,7 @@
 use Rattle.std.proofs.Common.{◌∙◌, ap, arith, pos, slice_index_or, w64}
 use Rattle.std.specs.Prelude.{unsigned_abs}
 use Rattle.std.proofs.lemmas.Int.{to_z-of_z, fits_signed_from_abs}
-use Rattle.ft_linear.specs.Form.{Factor, IsSmall}
+use Rattle.ft_linear.specs.meaning.Form.{Factor, IsSmall}
 use Rattle.ft_settle.proofs.CanonicalLemmas.{divisor-none, divisor-more, divisor-all, gcd-is}
 use Rattle.ft_settle.proofs.canonical.gcd_of.Goals as goal
 

@@ -1,5 +1,5 @@
 use Rattle.std.proofs.Common.{◌≡◌, ◌<◌, ℕ, false, get_or}
-use Rattle.ft_linear.specs.Form.{LinView}
+use Rattle.ft_linear.specs.meaning.Form.{LinView}
 use Rattle.ft_settle.specs.meaning.Settled.{same_form}
 use Rattle.ft_settle.proofs.settling.place_of.Given as goal
 

@@ -1,6 +1,6 @@
 use Rattle.std.proofs.Common.{◌≡◌, ◌∙◌, ap, length, List, pos, []}
-use Rattle.ft_linear.specs.Form.{LinView}
-use Rattle.ft_linear.specs.Formula.{FormulaView, atoms_below, truth_at}
+use Rattle.ft_linear.specs.meaning.Form.{LinView}
+use Rattle.ft_linear.specs.meaning.Formula.{FormulaView, atoms_below, truth_at}
 use Rattle.ft_settle.specs.meaning.Settled.{forms_of, placed, with_forms}
 use Rattle.ft_settle.proofs.SettleLemmas.{has-all, is-placed}
 use Rattle.ft_settle.proofs.settling.settle.Goals as goal

@@ -3,10 +3,10 @@ use Rattle.std.specs.Prelude.{ℕ, pos, nat_eq, Bool, false, ◌||◌, List, Opt
 use Rattle.std.specs.Ordering.{int_eq}
 use Rattle.std.specs.List.{list_all}
 use Rattle.ft_linear.specs.declared.lines.Line.{Line}
-use Rattle.ft_linear.specs.Form.{Factor}
-use Rattle.ft_linear.specs.Formula.{FormulaView}
-use Rattle.ft_linear.specs.Part.{PartView}
-use Rattle.ft_linear.specs.Rules.{total_factor}
+use Rattle.ft_linear.specs.meaning.Form.{Factor}
+use Rattle.ft_linear.specs.meaning.Formula.{FormulaView}
+use Rattle.ft_linear.specs.meaning.Part.{PartView}
+use Rattle.ft_linear.specs.meaning.Rules.{total_factor}
 
 abbrev pub is_kept : Option ℕ → ℕ → Bool
 is_kept None u = false

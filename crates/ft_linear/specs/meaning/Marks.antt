@@ -4,8 +4,8 @@ use Rattle.ft_base.specs.declared.three.Three.{Three}
 use Rattle.ft_linear.specs.declared.node.Node.{Node, Node-F, fold-Node}
 use Rattle.ft_linear.specs.declared.node.Node.TheOpen as layer
 use Rattle.ft_linear.specs.declared.forcing.Signs.{Signs}
-use Rattle.ft_linear.specs.Formula.{FormulaView, IsOver}
-use Rattle.ft_linear.specs.Part.{PartView, atom_value, decision, forced, is_decision}
+use Rattle.ft_linear.specs.meaning.Formula.{FormulaView}
+use Rattle.ft_linear.specs.meaning.Part.{PartView, atom_value, forced}
 
 -- the number of nodes of a tree
 abbrev pub layer_size : Node-F ℕ → ℕ
@@ -45,16 +45,3 @@ sign_of false signs = signs.no
 -- a literal that is forced: the atom where it is forced both ways
 abbrev pub literal_of : Signs → Option Bool
 literal_of signs = if signs.yes then Some true else if signs.no then Some false else None
-
--- what the weighing of the atoms asks
-pub record CanWeigh (f : FormulaView) (p : PartView) (values signs : ℕ) : Type 0 where
-  pub over : IsOver (length p.spans) f
-  pub decided : length p.decided ≡ length f.atoms
-  pub values_all : values ≡ length f.atoms
-  pub signs_all : signs ≡ length f.atoms
-
-abbrev pub decided_signs : Option Bool → Signs
-decided_signs decision = record { yes = is_decision decision true; no = is_decision decision false }
-
-abbrev pub decided_at : PartView → ℕ → Signs
-decided_at p a = decided_signs (decision p a)

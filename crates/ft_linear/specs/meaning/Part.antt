@@ -3,9 +3,9 @@ use Rattle.std.specs.Prelude.{◌≡◌, ℕ, ℤ, pos, ◌+ℤ◌, int_lt, int_
 use Rattle.std.specs.List.{list_any, list_all, range_with_len}
 use Rattle.ft_base.specs.declared.three.Three.{Three}
 use Rattle.ft_base.specs.declared.three.Three.TheVariants.{No, Maybe, Yes}
-use Rattle.ft_linear.specs.Form.{LinView, InArea, most, least}
-use Rattle.ft_linear.specs.Formula.{FormulaView, atom_at}
-use Rattle.ft_linear.specs.Forced.{value_of, forces, same_bool}
+use Rattle.ft_linear.specs.meaning.Form.{LinView, InArea, most, least}
+use Rattle.ft_linear.specs.meaning.Formula.{FormulaView, atom_at}
+use Rattle.ft_linear.specs.meaning.Forced.{value_of, forces, same_bool}
 use Rattle.ft_base.specs.Three.{is_no, is_yes}
 
 -- an area with a decision for some atoms

@@ -6,11 +6,11 @@ use Rattle.std.proofs.lemmas.List.Folds.{list_all-map}
 use Rattle.ft_linear.specs.declared.node.Node.{Node, Node-F, map-Node, fold-Node, roll-Node, fold-roll-Node, ind-Node}
 use Rattle.ft_linear.specs.declared.node.Node.TheOpen as layer
 use Rattle.ft_linear.specs.declared.node.Node.TheVariants.{At, Not, And, Or, rolls-At, rolls-Not, rolls-And, rolls-Or}
-use Rattle.ft_linear.specs.Truth.{truth, layer_truth, itself}
+use Rattle.ft_linear.specs.meaning.Truth.{truth, layer_truth, itself}
 use Rattle.ft_base.specs.declared.three.Three.{Three}
-use Rattle.ft_linear.specs.Formula.{atoms_below, layer_below}
-use Rattle.ft_linear.specs.Marks.{size_of, layer_size}
-use Rattle.ft_linear.specs.Forced.{Seen, seen, layer_seen, value_of, forces, same_bool, and_forces, or_forces}
+use Rattle.ft_linear.specs.meaning.Formula.{atoms_below, layer_below}
+use Rattle.ft_linear.specs.meaning.Marks.{size_of, layer_size}
+use Rattle.ft_linear.specs.meaning.Forced.{Seen, seen, layer_seen, value_of, forces, same_bool, and_forces, or_forces}
 use Rattle.ft_base.specs.Three.{three_all, three_any, three_not}
 
 pub list_any-map : {X Y : Type 0} (p : X → Bool) (h : Y → X) (ys : List Y) → list_any p (map h ys) ≡ list_any (λ y. p (h y)) ys

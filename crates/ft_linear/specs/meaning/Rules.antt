@@ -3,12 +3,12 @@ use Rattle.std.specs.Prelude.{◌≡◌, ◌≢◌, ◌<◌, ℕ, ℤ, pos, negs
 use Rattle.std.specs.List.{list_all}
 use Rattle.std.specs.Option.{option_map}
 use Rattle.ft_base.specs.Division.{floor_of}
-use Rattle.ft_linear.specs.Bounds.{times_most}
+use Rattle.ft_linear.specs.meaning.Bounds.{times_most}
 use Rattle.ft_linear.specs.declared.lines.Line.{Line}
 use Rattle.ft_linear.specs.declared.lines.Line.TheVariants.{Atom, Upper, Lower}
-use Rattle.ft_linear.specs.Form.{Factor, LinView, span_at}
-use Rattle.ft_linear.specs.Formula.{FormulaView, atom_at}
-use Rattle.ft_linear.specs.Part.{PartView, forced}
+use Rattle.ft_linear.specs.meaning.Form.{Factor, LinView, span_at}
+use Rattle.ft_linear.specs.meaning.Formula.{FormulaView, atom_at}
+use Rattle.ft_linear.specs.meaning.Part.{PartView, forced}
 
 -- 1 - L, which is at most 0 where L isn't
 abbrev pub negated : LinView → LinView

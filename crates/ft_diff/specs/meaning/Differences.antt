@@ -1,6 +1,6 @@
 -- Differences of two unknowns, and what solves them.
 use Rattle.std.specs.Prelude.{◌≤◌, ◌<◌, ℕ, ℤ, pos, ◌-ℤ◌, ◌≤ℤ◌, List, Option, Some, None, All, unsigned_abs}
-use Rattle.ft_linear.specs.Form.{InArea}
+use Rattle.ft_linear.specs.meaning.Form.{InArea}
 use Rattle.ft_diff.specs.declared.diff.Diff.{Diff}
 
 -- the number of an unknown at a point; none is zero

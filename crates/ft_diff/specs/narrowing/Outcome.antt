@@ -1,6 +1,6 @@
 -- What lines leave of the spans of an area.
 use Rattle.std.specs.Prelude.{◌≡◌, ◌<◌, ℕ, ℤ, ◌-ℤ◌, Bool, true, false, List, length, sum_by, nat_abs}
-use Rattle.ft_linear.specs.Form.{InArea, span_at}
+use Rattle.ft_linear.specs.meaning.Form.{InArea, span_at}
 use Rattle.ft_diff.specs.declared.narrowing.Step.{Step}
 use Rattle.ft_diff.specs.declared.narrowing.Step.TheVariants.{Met, Lowered, Barred}
 

@@ -3,8 +3,8 @@ use Rattle.std.specs.Prelude.{◌≡◌, ℕ, ℤ, pos, int_le, nat_lt, Bool, tr
 use Rattle.std.specs.List.{list_all}
 use Rattle.ft_linear.specs.declared.node.Node.{Node, Node-F, fold-Node}
 use Rattle.ft_linear.specs.declared.node.Node.TheOpen as layer
-use Rattle.ft_linear.specs.Form.{LinView, form_at, HasUnknowns}
-use Rattle.ft_linear.specs.Truth.{truth, itself}
+use Rattle.ft_linear.specs.meaning.Form.{LinView, form_at, HasUnknowns}
+use Rattle.ft_linear.specs.meaning.Truth.{truth, itself}
 
 -- the forms of its atoms, and its tree
 pub record FormulaView : Type 0 where

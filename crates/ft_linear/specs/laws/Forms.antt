@@ -1,9 +1,9 @@
 -- Laws over forms alone: their factors, and what they keep when they are negated or divided.
 use Rattle.std.specs.Prelude.{◌≡◌, ◌<◌, ℕ, ℤ, pos, neg_ℤ, ◌+ℤ◌, ◌*ℤ◌, int_le, Bool, List, length, slice_index_or}
 use Rattle.ft_base.specs.Division.{floor_of}
-use Rattle.ft_linear.specs.Forced.{same_bool}
-use Rattle.ft_linear.specs.Form.{Factor, LinView, AreRising, IsSmall, form_at, scaled, sum_at}
-use Rattle.ft_linear.specs.Rules.{literal_form}
+use Rattle.ft_linear.specs.meaning.Forced.{same_bool}
+use Rattle.ft_linear.specs.meaning.Form.{Factor, LinView, AreRising, IsSmall, form_at, scaled, sum_at}
+use Rattle.ft_linear.specs.meaning.Rules.{literal_form}
 
 -- each factor of rising unknowns is small
 abbrev pub FactorsAreSmall : Type 0

@@ -1,0 +1,2 @@
+-- What the sum of lines is computed by.
+pub mod Cancelling
