@@ -26,16 +26,16 @@ module _ (atoms : ℕ → Three) where
       let e = ap length (is ∙ ap (λ (l : List Slot). l ++ rest) front) in
       omega (arith, e)
 
-  pub inner-Not : (inner node : Node) (slots inner_slots : List Slot) → node ≡ Not inner → StartsWith slots (slots_of atoms node) → below ≡ drop 1 slots → StartsWith below (slots_of atoms inner)
-  inner-Not inner node slots below is (rest, starts) under =
+  pub inner-Not : (inner node : Node) (slots inner_slots : List Slot) → node ≡ Not inner → StartsWith slots (slots_of atoms node) → inner_slots ≡ drop 1 slots → StartsWith inner_slots (slots_of atoms inner)
+  inner-Not inner node slots inner_slots is (rest, starts) under =
       (rest, under ∙ ap (drop 1) (starts ∙ ap (λ (l : List Slot). l ++ rest) (ap (slots_of atoms) is ∙ slots-Not atoms inner)))
 
-  pub inner-And : (parts : List Node) (node : Node) (slots inner_slots : List Slot) → node ≡ And parts → StartsWith slots (slots_of atoms node) → below ≡ drop 1 slots → StartsWith below (flat_map (slots_of atoms) parts)
-  inner-And parts node slots below is (rest, starts) under =
+  pub inner-And : (parts : List Node) (node : Node) (slots inner_slots : List Slot) → node ≡ And parts → StartsWith slots (slots_of atoms node) → inner_slots ≡ drop 1 slots → StartsWith inner_slots (flat_map (slots_of atoms) parts)
+  inner-And parts node slots inner_slots is (rest, starts) under =
       (rest, under ∙ ap (drop 1) (starts ∙ ap (λ (l : List Slot). l ++ rest) (ap (slots_of atoms) is ∙ slots-And atoms parts)))
 
-  pub inner-Or : (parts : List Node) (node : Node) (slots inner_slots : List Slot) → node ≡ Or parts → StartsWith slots (slots_of atoms node) → below ≡ drop 1 slots → StartsWith below (flat_map (slots_of atoms) parts)
-  inner-Or parts node slots below is (rest, starts) under =
+  pub inner-Or : (parts : List Node) (node : Node) (slots inner_slots : List Slot) → node ≡ Or parts → StartsWith slots (slots_of atoms node) → inner_slots ≡ drop 1 slots → StartsWith inner_slots (flat_map (slots_of atoms) parts)
+  inner-Or parts node slots inner_slots is (rest, starts) under =
       (rest, under ∙ ap (drop 1) (starts ∙ ap (λ (l : List Slot). l ++ rest) (ap (slots_of atoms) is ∙ slots-Or atoms parts)))
 
   pub root-And : (parts : List Node) (node : Node) (slots : List Slot) (root : Slot) → node ≡ And parts → StartsWith slots (slots_of atoms node) → slice_get slots 0 ≡ Some root

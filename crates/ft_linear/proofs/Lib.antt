@@ -6,6 +6,8 @@ pub mod SlotLemmas
 pub mod ForcingLemmas
 pub mod Whole
 pub mod PartLaws
+pub mod OnePointLemmas
+pub mod PointLaws
 pub mod MarksLemmas
 pub mod UnknownLemmas
 pub mod RuleLemmas

@@ -17,7 +17,7 @@ mod sums;
 pub use area::Area;
 pub use formula::{Formula, evaluate};
 pub use judging::judge;
-pub use law::form_laws;
+pub use law::{form_laws, part_laws, sum_laws};
 pub use lin::Lin;
 pub use lines::{Line, literal_constant, literal_factor};
 pub use marks::Marks;

@@ -72,7 +72,7 @@ fn is_forced(formula: &Formula, part: &Part, marks: &Marks, atom: usize, value: 
     if atom >= formula.atoms().len() {
         return false;
     }
-    marks.has_sign(atom, value)
+    marks.is_forced(atom, value)
 }
 
 /// Whether a line has a form: its literal is forced, or its unknown is there.

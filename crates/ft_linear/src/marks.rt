@@ -91,7 +91,8 @@ impl Marks {
         })
     }
 
-    /// Which literal of an atom is forced. Of an atom that is forced both ways it is the atom itself.
+    /// Which literal of an atom is forced. Of an atom that is forced both ways, which makes the truth No, it is the atom
+    /// itself; `is_forced` tells both.
     pub fn forced(&self, atom: u32) -> Option<bool>
         requires { atom < length self.now.signs }
         ensures { option_map literal_of (slice_get self.now.signs atom) ≡ Some result }
@@ -114,8 +115,8 @@ impl Marks {
         self.values[atom as usize]
     }
 
-    /// Whether a literal of an atom is forced.
-    pub(crate) fn has_sign(&self, atom: usize, value: bool) -> bool
+    /// Whether the literal of an atom with this truth is forced.
+    pub fn is_forced(&self, atom: usize, value: bool) -> bool
         requires { atom < length self.now.signs }
         ensures { option_map (sign_of value) (slice_get self.now.signs atom) ≡ Some result }
     {
