@@ -1,13 +1,14 @@
 -- Difference lines as a list.
-use Rattle.std.proofs.Common.{◌≡◌, ◌∙◌, ◌⊎◌, inl, inr, sym, ap, subst, refl, ℕ, zero, suc, ◌+◌, ◌<◌, ◌≤◌, ◌↔◌, ℤ, pos, negsuc, neg_ℤ, ◌+ℤ◌, ◌-ℤ◌, ◌*ℤ◌, ◌≤ℤ◌, Bool, true, false, ◌&&◌, ◌||◌, cond, List, [], ◌∷◌, ◌++◌, length, Option, Some, None, slice_get, All, arith}
+use Rattle.std.proofs.Common.{◌≡◌, ◌∙◌, ◌⊎◌, inl, inr, sym, ap, subst, refl, ℕ, zero, suc, ◌+◌, ◌<◌, ◌≤◌, ◌↔◌, ℤ, pos, negsuc, neg_ℤ, ◌+ℤ◌, ◌-ℤ◌, ◌*ℤ◌, ◌≤ℤ◌, Bool, true, false, ◌&&◌, ◌||◌, cond, List, [], ◌∷◌, ◌++◌, length, Option, Some, None, slice_get, All, arith, w64}
 use Rattle.std.specs.Ordering.{int_eq}
 use Rattle.std.proofs.lemmas.Bool.{cases_Bool, cases_eq}
-use Rattle.std.proofs.lemmas.Int.{ints}
+use Rattle.std.proofs.lemmas.Int.{ints, to_z-of_z, fits_signed_from_abs}
+use mir.Val.{to_z, of_z}
 use Rattle.std.proofs.lemmas.List.Elements.{All-nil, All-cons, All-head, All-tail, All-append}
 use Rattle.std.proofs.lemmas.Option.{slice_get_within, cond_some, get_or_from_slice_get}
 use Rattle.ft_diff.specs.declared.diff.Diff.{Diff}
 use Rattle.ft_diff.specs.meaning.Differences.{Meets, IsSolution}
-use Rattle.ft_linear.specs.meaning.Form.{Factor, LinView, InArea, HasUnknowns, sum_at, form_at}
+use Rattle.ft_linear.specs.meaning.Form.{Factor, LinView, InArea, HasUnknowns, IsSmall, sum_at, form_at}
 use Rattle.ft_linear.specs.meaning.Formula.{FormulaView, IsOver as IsFormulaOver}
 use Rattle.ft_linear.specs.meaning.Part.{PartView, forced}
 use Rattle.ft_linear.specs.meaning.Rules.{literal_form}
@@ -223,3 +224,23 @@ lines-more f p a l yes_forced no_forced got y n =
 
 pub over-form : (n : ℕ) (f : FormulaView) (a : ℕ) (l : LinView) → IsFormulaOver n f → slice_get f.atoms a ≡ Some l → HasUnknowns n l.factors
 over-form n f a l over is = subst (λ (m : LinView). HasUnknowns n m.factors) (get_or_from_slice_get f.atoms a l l is) (over a l (slice_get_within f.atoms a l is))
+
+-- a small number is the same when it is read
+pub read-same : (z : ℤ) → IsSmall z → to_z w64 (of_z w64 z) ≡ z
+read-same z h = to_z-of_z w64 z (fits_signed_from_abs w64 z (omega (arith, h)))
+
+-- what a literal of an atom with one unknown, or with two, is as a difference
+pub one-value : (value : Bool) (factor : Factor) (constant f b : ℤ) (r : Option Diff) → f ≡ cond value factor.1 (neg_ℤ factor.1)
+    → b ≡ neg_ℤ (cond value constant (pos 1 -ℤ constant)) → ((c : ℤ) → b ≡ neg_ℤ c → r ≡ diff_from ((factor.0, f) ∷ []) c)
+    → r ≡ form_diff value (Some (record { factors = factor ∷ []; constant = constant }))
+one-value true factor constant f b r ef eb h = h constant eb ∙ (λ i. diff_from ((factor.0, ef i) ∷ []) constant)
+one-value false factor constant f b r ef eb h = h (pos 1 -ℤ constant) eb ∙ (λ i. diff_from ((factor.0, ef i) ∷ []) (pos 1 -ℤ constant))
+
+pub two-value : (value : Bool) (first second : Factor) (constant f g b : ℤ) (r : Option Diff) → f ≡ cond value first.1 (neg_ℤ first.1) → g ≡ cond value second.1 (neg_ℤ second.1)
+    → b ≡ neg_ℤ (cond value constant (pos 1 -ℤ constant)) → ((c : ℤ) → b ≡ neg_ℤ c → r ≡ diff_from ((first.0, f) ∷ (second.0, g) ∷ []) c)
+    → r ≡ form_diff value (Some (record { factors = first ∷ second ∷ []; constant = constant }))
+two-value true first second constant f g b r ef eg eb h = h constant eb ∙ (λ i. diff_from ((first.0, ef i) ∷ (second.0, eg i) ∷ []) constant)
+two-value false first second constant f g b r ef eg eb h = h (pos 1 -ℤ constant) eb ∙ (λ i. diff_from ((first.0, ef i) ∷ (second.0, eg i) ∷ []) (pos 1 -ℤ constant))
+
+pub by-value : (value : Bool) (a b : ℤ) → a ≡ b → cond value a (neg_ℤ a) ≡ cond value b (neg_ℤ b)
+by-value value a b e = ap (λ (z : ℤ). cond value z (neg_ℤ z)) e
