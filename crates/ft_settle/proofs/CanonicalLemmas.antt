@@ -47,14 +47,14 @@ divisor-more g next fs i e n within is gcd before d =
 pub divisor-all : (g : ℕ) (fs : List Factor) (i : ℕ) → length fs ≤ i → IsDivisor g (take i fs) → IsDivisor g fs
 divisor-all g fs i past h = subst (IsDivisor g) (take_all i fs past) h
 
-test-of : (d : ℕ) (fs : List Factor) → DividesEach d fs → divides_all d fs ≡ true
+pub test-of : (d : ℕ) (fs : List Factor) → DividesEach d fs → divides_all d fs ≡ true
 test-of d [] h = refl
 test-of d (f ∷ fs) h = ap (λ b. b && divides_all d fs) (eq-test (unsigned_abs f.1 % d) (mod-eq-zero_of_dvd d h.0)) ∙ test-of d fs h.1
   where
     eq-test : (n : ℕ) → n ≡ 0 → nat_eq n 0 ≡ true
     eq-test n e = grind arith
 
-of-test : (d : ℕ) (fs : List Factor) → divides_all d fs ≡ true → DividesEach d fs
+pub of-test : (d : ℕ) (fs : List Factor) → divides_all d fs ≡ true → DividesEach d fs
 of-test d [] e = tt
 of-test d (f ∷ fs) e = let (here, rest) = and_parts (nat_eq (unsigned_abs f.1 % d) 0) (divides_all d fs) e in
     (dvd_of_mod-eq-zero d (eqb-true (unsigned_abs f.1 % d) 0 here), of-test d fs rest)
@@ -70,12 +70,12 @@ greatest-is (suc n) g fs le above so none = elim (cases_eq g (suc n)) [
   ]
 ]
 
-abs-some : (z : ℤ) → z ≢ pos 0 → 0 < unsigned_abs z
+pub abs-some : (z : ℤ) → z ≢ pos 0 → 0 < unsigned_abs z
 abs-some (pos zero) h = absurd (h refl)
 abs-some (pos (suc n)) h = omega (arith, ints)
 abs-some (negsuc n) h = omega (arith, ints)
 
-no-zero : (g n : ℕ) → g ∣ n → 0 < n → 0 < g
+pub no-zero : (g n : ℕ) → g ∣ n → 0 < n → 0 < g
 no-zero zero n d above = let e = dvd_antisymm d (dvd-zero n) in absurd (omega (arith, e, above))
 no-zero (suc g) n d above = omega arith
 
@@ -116,7 +116,7 @@ begins-well (f ∷ fs) from h = elim (cases_Bool (int_eq f.1 (pos 0))) [
   | inr isnt ↦ ap not isnt
 ]
 
-not-zero : (z : ℤ) → not (int_eq z (pos 0)) ≡ true → z ≢ pos 0
+pub not-zero : (z : ℤ) → not (int_eq z (pos 0)) ≡ true → z ≢ pos 0
 not-zero z e same = cc (sym e ∙ ap (λ (y : ℤ). not (int_eq y (pos 0))) same)
 
 pub gcd-divides : (fs : List Factor) → 0 < length fs → begins_well fs ≡ true → DividesEach (gcd_of fs) fs × (0 < gcd_of fs)
@@ -142,14 +142,14 @@ module _ (quotient : QuotientIsExact) where
           let s : pos (suc n) ≡ pos g *ℤ pos (suc k) = ap pos e in
           by-quotient (negsuc n) (negsuc k) (omega (arith, ints, m, s))
 
-  quotient-some : (z : ℤ) (g : ℕ) → 0 < g → g ∣ unsigned_abs z → z ≢ pos 0 → floor_of z (pos g) ≢ pos 0
+  pub quotient-some : (z : ℤ) (g : ℕ) → 0 < g → g ∣ unsigned_abs z → z ≢ pos 0 → floor_of z (pos g) ≢ pos 0
   quotient-some z g h d some none = some (exact z g h d ∙ ap (λ (q : ℤ). pos g *ℤ q) none ∙ *ℤ-zero (pos g))
 
 quotient-small : (z : ℤ) (g : ℕ) → 0 < g → unsigned_abs (floor_of z (pos g)) ≤ unsigned_abs z
 quotient-small (pos n) g h = div-le_self n g
 quotient-small (negsuc n) g h = let less : n / g ≤ n = div-le_self n g in omega (arith, ints, less)
 
-signed-some : (b : Bool) (q : ℤ) → q ≢ pos 0 → cond b q (neg_ℤ q) ≢ pos 0
+pub signed-some : (b : Bool) (q : ℤ) → q ≢ pos 0 → cond b q (neg_ℤ q) ≢ pos 0
 signed-some true q h e = h e
 signed-some false q h e = h (omega (arith, ints, e))
 

@@ -1,3 +1,4 @@
+pub mod AtomLemmas
 pub mod CanonicalLemmas
 pub mod RawLemmas
 pub mod SettleLemmas

@@ -52,10 +52,10 @@ same-factors (f ∷ fs) (g ∷ gs) e =
     let (u, z) = and_parts (nat_eq f.0 g.0) (int_eq f.1 g.1) here in
     λ i. (eqb-true f.0 g.0 u i, same-int f.1 g.1 z i) ∷ same-factors fs gs rest i
 
-form-itself : (l : LinView) → same_form l l ≡ true
+pub form-itself : (l : LinView) → same_form l l ≡ true
 form-itself l = ap (λ b. b && pointwise same_factor l.factors l.factors) (int-itself l.constant) ∙ factors-itself l.factors
 
-same-forms : (l m : LinView) → same_form l m ≡ true → l ≡ m
+pub same-forms : (l m : LinView) → same_form l m ≡ true → l ≡ m
 same-forms l m e =
     let (c, fs) = and_parts (int_eq l.constant m.constant) (pointwise same_factor l.factors m.factors) e in
     λ i. record { factors = same-factors l.factors m.factors fs i; constant = same-int l.constant m.constant c i }

@@ -1,11 +1,11 @@
 // Settling a formula: its atoms made canonical, each once, and numbered by their first occurrence.
 
-ghost use Rattle.std.specs.Prelude.{◌≡◌, ◌≤◌, ◌<◌, IfOk, OnOk, ℕ, ℤ, pos, int_le, [], true, length, map, nat_le, unsigned_abs, if◌then◌else◌};
-ghost use Rattle.std.specs.List.{list_all, list_any, flat_map, position_or_len};
+ghost use Rattle.std.specs.Prelude.{◌≡◌, ◌≤◌, ◌<◌, IfOk, OnOk, ℕ, ℤ, pos, int_le, [], true, length, map, nat_le, unsigned_abs, All, if◌then◌else◌};
+ghost use Rattle.std.specs.List.{IsDistinct, list_all, list_any, flat_map, position_or_len};
 ghost use Rattle.ft_linear.specs.meaning.Form.{values_at};
 ghost use Rattle.ft_linear.specs.meaning.Formula.{truth_at};
 ghost use Rattle.ft_settle.specs.meaning.Raw.{is_moderate, moderate_most, raw_truth};
-ghost use Rattle.ft_settle.specs.meaning.Canonical.{canonical};
+ghost use Rattle.ft_settle.specs.meaning.Canonical.{IsCanonical, canonical};
 ghost use Rattle.ft_settle.specs.meaning.Settled.{atoms_in, forms_of, place_of, placed, placed_form, same_form, settled, with_form, with_forms};
 ghost use Rattle.ft_settle.specs.settling.Factors.{all_begin_well, begins_well};
 
@@ -200,6 +200,8 @@ pub fn is_moderate(raw: &Raw) -> bool
 pub fn settle(alloc: Global, raw: &Raw) -> Result<Formula, NoMemory>
     requires { is_moderate raw.now ≡ true }
     ensures value { IfOk result (λ formula. formula ≡ settled raw.now) }
+    ensures canonical { IfOk result (λ formula. All IsCanonical formula.atoms) }
+    ensures different { IfOk result (λ formula. IsDistinct same_form formula.atoms) }
     ensures same { IfOk result (λ formula. (x : ℕ → ℤ) → truth_at formula x ≡ raw_truth x raw.now) }
 {
     form_laws();

@@ -1,5 +1,5 @@
 -- Canonical forms: divided by the greatest common divisor of the factors, and negated where the first is negative.
-use Rattle.std.specs.Prelude.{ℕ, zero, suc, ◌%◌, pos, neg_ℤ, int_lt, nat_eq, not, Bool, true, List, [], ◌∷◌, map, unsigned_abs, if◌then◌else◌}
+use Rattle.std.specs.Prelude.{◌≡◌, ◌<◌, ℕ, zero, suc, ◌%◌, pos, neg_ℤ, int_lt, nat_eq, not, Bool, true, List, [], ◌∷◌, length, map, unsigned_abs, if◌then◌else◌}
 use Rattle.std.specs.List.{list_all}
 use Rattle.ft_base.specs.Division.{floor_of}
 use Rattle.ft_linear.specs.meaning.Form.{Factor, LinView}
@@ -29,3 +29,12 @@ is_positive (f ∷ fs) = not (int_lt f.1 (pos 0))
 -- the form of the canonical atom: divided by the greatest common divisor of its factors, and 1 minus that where its first factor is negative
 abbrev pub canonical : LinView → LinView
 canonical l = literal_form (is_positive l.factors) (divided (gcd_of l.factors) l)
+
+-- factors in lowest terms, of which the first isn't negative: only 1 divides each
+pub record AreCanonical (fs : List Factor) : Type 0 where
+  pub some : 0 < length fs
+  pub lowest : (d : ℕ) → divides_all d fs ≡ true → d ≡ 1
+  pub positive : is_positive fs ≡ true
+
+abbrev pub IsCanonical : LinView → Type 0
+IsCanonical l = AreCanonical l.factors
