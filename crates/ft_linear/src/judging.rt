@@ -66,20 +66,6 @@ fn is_agreed(decision: Option<bool>, fixed: Three) -> bool
     }
 }
 
-/// Whether one of two holds.
-fn disjunction(first: bool, second: bool) -> bool
-    ensures { result ≡ (first || second) }
-{
-    first || second
-}
-
-/// Whether two hold.
-fn conjunction(first: bool, second: bool) -> bool
-    ensures { result ≡ (first && second) }
-{
-    first && second
-}
-
 /// The decision of an atom.
 fn decision_at(decisions: &[Option<bool>], atom: usize) -> Option<bool>
     requires { atom < length decisions.now }
@@ -105,8 +91,8 @@ fn weigh(formula: &Formula, part: &Part, values: &mut [Three], signs: &mut [Sign
         let fixed = atom.fixed(spans);
         values[at] = value_by(decision, fixed);
         signs[at] = decided_signs(decision);
-        against = disjunction(against, is_against(decision, fixed));
-        agreed = conjunction(agreed, is_agreed(decision, fixed));
+        against |= is_against(decision, fixed);
+        agreed &= is_agreed(decision, fixed);
     }
     Weighed { against, agreed }
 }

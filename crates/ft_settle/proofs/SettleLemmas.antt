@@ -68,7 +68,7 @@ finds l (m ∷ forms) e = elim (cases_Bool (same_form l m)) [
   | inr isnt ↦ ap (λ b. cond b (Some m) (find (same_form l) forms)) isnt ∙ finds l forms (rw isnt at e)
 ]
 
-found-at : (l : LinView) (forms : List LinView) → list_any (same_form l) forms ≡ true → slice_get forms (place_of forms l) ≡ Some l
+pub found-at : (l : LinView) (forms : List LinView) → list_any (same_form l) forms ≡ true → slice_get forms (place_of forms l) ≡ Some l
 found-at l forms e = sym (find_at (same_form l) forms) ∙ finds l forms e
 
 place-below : (l : LinView) (forms : List LinView) → list_any (same_form l) forms ≡ true → nat_lt (place_of forms l) (length forms) ≡ true

@@ -6,7 +6,7 @@ ghost use Rattle.ft_linear.specs.meaning.Form.{values_at};
 ghost use Rattle.ft_linear.specs.meaning.Formula.{truth_at};
 ghost use Rattle.ft_settle.specs.meaning.Raw.{is_moderate, moderate_most, raw_truth};
 ghost use Rattle.ft_settle.specs.meaning.Canonical.{IsCanonical, canonical};
-ghost use Rattle.ft_settle.specs.meaning.Settled.{atoms_in, forms_of, place_of, placed, placed_form, same_form, settled, with_form, with_forms};
+ghost use Rattle.ft_settle.specs.meaning.Settled.{AreFirstOccurrences, atoms_in, forms_of, place_of, placed, placed_form, same_form, settled, with_form, with_forms};
 ghost use Rattle.ft_settle.specs.settling.Factors.{all_begin_well, begins_well};
 
 use crate::canonical::{canonical, is_positive, same_form};
@@ -202,6 +202,7 @@ pub fn settle(alloc: Global, raw: &Raw) -> Result<Formula, NoMemory>
     ensures value { IfOk result (λ formula. formula ≡ settled raw.now) }
     ensures canonical { IfOk result (λ formula. All IsCanonical formula.atoms) }
     ensures different { IfOk result (λ formula. IsDistinct same_form formula.atoms) }
+    ensures numbered { IfOk result (λ formula. AreFirstOccurrences (forms_of raw.now) formula.atoms) }
     ensures same { IfOk result (λ formula. (x : ℕ → ℤ) → truth_at formula x ≡ raw_truth x raw.now) }
 {
     form_laws();

@@ -1,5 +1,5 @@
 -- Settled formulas: canonical atoms, each once and numbered by its first occurrence from left to right.
-use Rattle.std.specs.Prelude.{ℕ, pos, int_lt, int_le, nat_eq, Bool, ◌&&◌, List, [], ◌∷◌, ◌++◌, if◌then◌else◌}
+use Rattle.std.specs.Prelude.{◌≡◌, ◌<◌, ℕ, pos, int_lt, int_le, nat_eq, Bool, ◌&&◌, List, [], ◌∷◌, ◌++◌, length, Some, slice_get, if◌then◌else◌}
 use Rattle.std.specs.Ordering.{int_eq}
 use Rattle.std.specs.Cmp.Lexicographic.{pointwise}
 use Rattle.std.specs.List.{list_any, flat_map, position_or_len}
@@ -61,3 +61,14 @@ placed forms = fold-Raw Node (layer_placed forms)
 -- a formula with canonical atoms, each once and numbered by its first occurrence from left to right
 abbrev pub settled : Raw → FormulaView
 settled raw = record { atoms = with_forms [] (forms_of raw); root = placed (with_forms [] (forms_of raw)) raw }
+
+-- a form is one of the first n atoms
+abbrev pub StandsBelow : List LinView → ℕ → LinView → Type 0
+StandsBelow atoms n l = (i : ℕ) × (i < n) × (slice_get atoms i ≡ Some l)
+
+-- the atoms are these forms in the order in which they first occur: each form is an atom, and the n-th atom is a form
+-- before which only forms stand that are among the first n atoms
+pub record AreFirstOccurrences (forms atoms : List LinView) : Type 0 where
+  pub all : (k : ℕ) (l : LinView) → slice_get forms k ≡ Some l → StandsBelow atoms (length atoms) l
+  pub first : (n : ℕ) (l : LinView) → slice_get atoms n ≡ Some l
+      → (k : ℕ) × (slice_get forms k ≡ Some l) × ((j : ℕ) (m : LinView) → j < k → slice_get forms j ≡ Some m → StandsBelow atoms n m)

@@ -5,7 +5,8 @@ use Rattle.ft_settle.specs.meaning.Canonical.{IsCanonical}
 use Rattle.ft_settle.proofs.AtomLemmas.{all-with, distinct-with, forms-canonical, none-distinct}
 use Rattle.ft_linear.specs.meaning.Form.{LinView}
 use Rattle.ft_linear.specs.meaning.Formula.{FormulaView, atoms_below, truth_at}
-use Rattle.ft_settle.specs.meaning.Settled.{forms_of, placed, same_form, with_forms}
+use Rattle.ft_settle.specs.meaning.Settled.{AreFirstOccurrences, forms_of, placed, same_form, with_forms}
+use Rattle.ft_settle.proofs.OccurrenceLemmas.{first-occurrences, none-occurs}
 use Rattle.ft_settle.proofs.SettleLemmas.{has-all, is-placed}
 use Rattle.ft_settle.proofs.settling.settle.Goals as goal
 
@@ -37,3 +38,9 @@ returns-clause-different c =
     let raw = c.args.raw.now in
     let forms : c.collect.new.forms ≡ with_forms [] (forms_of raw) = c.in_ok-collect.ensures.forms ∙ ap (λ (l : List LinView). with_forms l (forms_of raw)) c.new-forms.ensures in
     subst (IsDistinct same_form) (sym (ap (λ (f : FormulaView). f.atoms) c.of_parts.ensures ∙ forms)) (distinct-with [] (forms_of raw) none-distinct)
+
+pub returns-clause-numbered : goal.returns-clause-numbered
+returns-clause-numbered c =
+    let raw = c.args.raw.now in
+    let forms : c.collect.new.forms ≡ with_forms [] (forms_of raw) = c.in_ok-collect.ensures.forms ∙ ap (λ (l : List LinView). with_forms l (forms_of raw)) c.new-forms.ensures in
+    subst (AreFirstOccurrences (forms_of raw)) (sym (ap (λ (f : FormulaView). f.atoms) c.of_parts.ensures ∙ forms)) (first-occurrences [] (forms_of raw) [] none-occurs)
