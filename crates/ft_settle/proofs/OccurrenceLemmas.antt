@@ -47,9 +47,9 @@ module _ (done atoms : List LinView) (y : LinView) (h : AreFirstOccurrences done
           | inr (last, same) ↦ (place_of atoms y, slice_get_within atoms (place_of atoms y) y found, found ∙ ap Some same)
         ];
         first = λ n l e.
-          let (k, here, front) = h.first n l e in
-          let within = slice_get_within done k l here in
-          (k, on-left done y k l here, λ j m below got. front j m below (before-end done y j m (omega (arith, below, within)) got));
+            let (k, here, front) = h.first n l e in
+            let within = slice_get_within done k l here in
+            (k, on-left done y k l here, λ j m below got. front j m below (before-end done y j m (omega (arith, below, within)) got));
       }
 
   kept : (n i : ℕ) (m : LinView) → slice_get atoms i ≡ Some m → i < n → StandsBelow (atoms ++ y ∷ []) n m
