@@ -8,6 +8,7 @@ pub mod Whole
 pub mod PartLaws
 pub mod OnePointLemmas
 pub mod PointLaws
+pub mod SingleLaws
 pub mod MarksLemmas
 pub mod UnknownLemmas
 pub mod RuleLemmas

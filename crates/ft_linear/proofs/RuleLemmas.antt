@@ -23,7 +23,7 @@ use Rattle.ft_linear.proofs.UnknownLemmas.{cancels, alone, sum-append, sum-scale
 use Rattle.ft_linear.proofs.Basics.{is-zero}
 
 -- an unknown below those of a form has the factor 0, and the first factor of an unknown is its only one
-none-below : (from u : ℕ) (fs : List Factor) → AreRising from fs → u < from → factor_of u fs ≡ pos 0
+pub none-below : (from u : ℕ) (fs : List Factor) → AreRising from fs → u < from → factor_of u fs ≡ pos 0
 none-below from u [] h below = refl
 none-below from u (f ∷ fs) h below =
     let other = not-equal f.0 u (λ same. omega (arith, same, h.0, below)) in

@@ -4,6 +4,7 @@ pub mod Difference
 pub mod Forced
 pub mod Form
 pub mod Formula
+pub mod Halving
 pub mod Marks
 pub mod Part
 pub mod Rules
