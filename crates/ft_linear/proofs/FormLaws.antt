@@ -3,7 +3,7 @@ use Rattle.std.proofs.Common.{◌≡◌, ◌∙◌, inl, inr, sym, ap, refl, ◌
 use Rattle.std.specs.Prelude.{int_le}
 use Rattle.std.proofs.lemmas.Bool.{cases_Bool}
 use Rattle.std.proofs.lemmas.Int.{ints}
-use Rattle.ft_linear.specs.meaning.Form.{sum_at, form_at}
+use Rattle.ft_linear.specs.meaning.Form.{sum_at}
 use Rattle.ft_linear.specs.laws.Forms.{LiteralsHold, DividedHolds, QuotientIsExact}
 use Rattle.ft_linear.proofs.UnknownLemmas.{sum-scaled, sum-negated}
 use Rattle.ft_linear.proofs.Whole.{divided-form, quotient-is}

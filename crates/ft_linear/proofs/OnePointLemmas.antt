@@ -1,19 +1,18 @@
 -- A part whose spans have one value each isn't Maybe.
-use Rattle.std.proofs.Common.{◌≡◌, ◌≢◌, ◌∙◌, ◌⊎◌, inl, inr, sym, ap, subst, refl, ℕ, zero, suc, ◌+◌, ◌<◌, ◌≤◌, ℤ, pos, ◌+ℤ◌, ◌*ℤ◌, Bool, true, false, ◌&&◌, ◌||◌, cond, not, List, [], ◌∷◌, length, map, Option, Some, None, slice_get, arith}
-use Rattle.std.specs.Prelude.{int_lt, int_le, nat_lt, unwrap_or, slice_index_or}
+use Rattle.std.proofs.Common.{◌≡◌, ◌∙◌, inl, inr, sym, ap, refl, ℕ, zero, suc, ◌+◌, ◌<◌, ℤ, pos, ◌+ℤ◌, ◌*ℤ◌, Bool, true, false, ◌&&◌, ◌||◌, cond, List, [], ◌∷◌, length, map, Option, Some, None, arith}
+use Rattle.std.specs.Prelude.{int_lt, int_le, nat_lt, slice_index_or}
 use Rattle.std.specs.List.{list_any, list_all, range_with_len}
 use Rattle.std.proofs.lemmas.Bool.{cases_Bool, and_parts}
 use Rattle.std.proofs.lemmas.Int.{ints}
-use Rattle.std.proofs.lemmas.Option.{slice_get-get_or, slice_get_past}
+use Rattle.std.proofs.lemmas.Option.{slice_get-get_or}
 use Rattle.ft_base.specs.declared.three.Three.{Three}
 use Rattle.ft_base.specs.declared.three.Three.TheVariants.{No, Maybe, Yes}
 use Rattle.ft_linear.specs.declared.node.Node.{Node}
-use Rattle.ft_linear.specs.declared.node.Node.TheVariants.{At, Not, And, Or}
 use Rattle.ft_linear.specs.meaning.Form.{LinView, Factor, span_at, most, least, high_end, low_end}
-use Rattle.ft_linear.specs.meaning.Formula.{FormulaView, atoms_below}
+use Rattle.ft_linear.specs.meaning.Formula.{atoms_below}
 use Rattle.ft_base.specs.Three.{is_no, is_yes, three_not, three_all, three_any}
 use Rattle.ft_linear.specs.meaning.Forced.{value_of}
-use Rattle.ft_linear.specs.meaning.Part.{PartView, fixed_form, fixed, decision, value_by, atom_value, against, agrees, is_against, is_agreed, is_forced_both, atoms_of, truth_of}
+use Rattle.ft_linear.specs.meaning.Part.{fixed_form, fixed, decision, value_by, atom_value, against, agrees, is_against, is_agreed, is_forced_both, atoms_of}
 use Rattle.ft_linear.specs.laws.Parts.{SettledAtOnePoint}
 use Rattle.ft_linear.specs.laws.Nodes.{Inductive, With, bare, node_induction, value-At, value-Not, value-And, value-Or, below-At, below-Not, below-And, below-Or}
 

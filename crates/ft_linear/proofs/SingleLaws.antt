@@ -1,6 +1,6 @@
 -- A literal's line with the bounds that cancel its other unknowns.
-use Rattle.std.proofs.Common.{◌≡◌, ◌≢◌, ◌∙◌, inl, inr, sym, ap, subst, refl, ℕ, zero, suc, ◌+◌, ◌<◌, ◌≤◌, ◌↔◌, ℤ, pos, negsuc, neg_ℤ, ◌+ℤ◌, ◌-ℤ◌, ◌*ℤ◌, Bool, true, false, not, ◌&&◌, cond, List, [], ◌∷◌, length, map, Option, Some, None, slice_get, arith}
-use Rattle.std.specs.Prelude.{filter, int_lt, is_some, nat_eq, nat_le, unsigned_abs}
+use Rattle.std.proofs.Common.{◌≡◌, ◌≢◌, ◌∙◌, inl, inr, sym, ap, subst, refl, ℕ, zero, suc, ◌+◌, ◌<◌, ◌≤◌, ◌↔◌, ℤ, pos, negsuc, neg_ℤ, ◌+ℤ◌, ◌-ℤ◌, ◌*ℤ◌, Bool, true, false, ◌&&◌, cond, List, [], ◌∷◌, length, map, Option, Some, None, slice_get, arith}
+use Rattle.std.specs.Prelude.{filter, int_lt, is_some, nat_eq, nat_le}
 use Rattle.std.specs.List.{list_all}
 use Rattle.std.specs.Option.{option_map}
 use Rattle.std.proofs.Math.IntN.{*ℤ-zero, zero-*ℤ}
@@ -13,13 +13,13 @@ use Rattle.ft_linear.specs.declared.lines.Line.{Line}
 use Rattle.ft_linear.specs.declared.lines.Line.TheVariants.{Atom, Upper, Lower}
 use Rattle.ft_linear.specs.laws.Sums.{SinglesTighten, single_span}
 use Rattle.ft_linear.specs.meaning.Bounds.{times_most, value_most}
-use Rattle.ft_linear.specs.meaning.Form.{AreRising, Factor, HasUnknowns, IsProper, IsSmall, LinView, least, low_end, span_at}
+use Rattle.ft_linear.specs.meaning.Form.{AreRising, Factor, HasUnknowns, IsSmall, LinView, high_end, least, low_end, most, span_at}
 use Rattle.ft_linear.specs.meaning.Formula.{FormulaView}
 use Rattle.ft_linear.specs.meaning.Halving.{cancelling, is_other, single_lines}
-use Rattle.ft_linear.specs.meaning.Part.{PartView, forced}
+use Rattle.ft_linear.specs.meaning.Part.{PartView}
 use Rattle.ft_linear.specs.meaning.Rules.{Tightens, are_lines, constant_in, factor_of, factors_in, is_line, is_multiplier, line_form, literal_form, lower_form, narrowed, times_of, total_constant, total_factor, upper_form}
 use Rattle.ft_linear.proofs.RuleLemmas.{none-below}
-use Rattle.ft_linear.proofs.UnknownLemmas.{negated_factors, not-equal}
+use Rattle.ft_linear.proofs.UnknownLemmas.{factor_of-negated, negated_factors, not-equal}
 use Rattle.ft_linear.proofs.Whole.{mul-neg, neg-mul}
 
 above : (n : ℕ) → int_lt (pos 0) (pos (suc n)) ≡ true
@@ -118,7 +118,7 @@ module _ (f : FormulaView) (p : PartView) where
   bound-constant w (pos (suc n)) within some =
       subst (λ (l : Line). pos (times_of l) *ℤ constant_in (line_form f p l) ≡ low_end (pos (suc n)) (span_at p.spans w)) (sym (lower-is w n))
       (ap (λ (o : Option LinView). pos (suc n) *ℤ constant_in o) (lower-form w (suc n) within)
-          ∙ sym (ap (λ (b : Bool). pos (suc n) *ℤ cond b (span_at p.spans w).1 (span_at p.spans w).0) (not-under (suc n))))
+      ∙ sym (ap (λ (b : Bool). pos (suc n) *ℤ cond b (span_at p.spans w).1 (span_at p.spans w).0) (not-under (suc n))))
   bound-constant w (negsuc n) within some =
       let a = mul-neg (pos (suc n)) (span_at p.spans w).1 in
       let b = neg-mul (pos (suc n)) (span_at p.spans w).1 in
@@ -221,3 +221,31 @@ singles-tighten f p a s u l span got proper within few is_forced inside = by-sig
     by-sign false is =
         let long = length-map {B = Factor} l.factors (λ (g : Factor). (g.0, neg_ℤ g.1)) in
         tightens f p a false u (literal_form false l) is (rising-negated 0 l.factors proper.rising) (within-negated (length p.spans) l.factors within) (omega (arith, long, few)) inside span
+
+-- the least value of minus a form
+pub least-negated : (spans : List (ℤ × ℤ)) (fs : List Factor) → least spans (negated_factors fs) ≡ neg_ℤ (most spans fs)
+least-negated spans [] = refl
+least-negated spans (f ∷ fs) = let e = end-negated f.1 (span_at spans f.0) in let r = least-negated spans fs in omega (arith, ints, e, r)
+  where
+    end-negated : (z : ℤ) (t : ℤ × ℤ) → low_end (neg_ℤ z) t ≡ neg_ℤ (high_end z t)
+    end-negated (pos zero) t = no-end t ∙ sym (ap neg_ℤ (zero-*ℤ (cond (int_lt (pos 0) (pos 0)) t.0 t.1)))
+    end-negated (pos (suc n)) t =
+        let a = neg-mul (pos (suc n)) t.1 in
+        let h : high_end (pos (suc n)) t ≡ pos (suc n) *ℤ t.1 = ap (λ (b : Bool). pos (suc n) *ℤ cond b t.0 t.1) (not-under (suc n)) in
+        omega (arith, ints, a, h)
+    end-negated (negsuc n) t =
+        let a = neg-mul (pos (suc n)) t.0 in
+        let l : low_end (pos (suc n)) t ≡ pos (suc n) *ℤ t.0 = ap (λ (b : Bool). pos (suc n) *ℤ cond b t.1 t.0) (not-under (suc n)) in
+        omega (arith, ints, a, l)
+
+pub literal-least : (spans : List (ℤ × ℤ)) (s : Bool) (l : LinView) → least spans (literal_form s l).factors ≡ cond s (least spans l.factors) (neg_ℤ (most spans l.factors))
+literal-least spans true l = refl
+literal-least spans false l = least-negated spans l.factors
+
+pub literal-factor_of : (u : ℕ) (s : Bool) (l : LinView) → factor_of u (literal_form s l).factors ≡ cond s (factor_of u l.factors) (neg_ℤ (factor_of u l.factors))
+literal-factor_of u true l = refl
+literal-factor_of u false l = factor_of-negated u l.factors
+
+pub literal-constant : (s : Bool) (l : LinView) → (literal_form s l).constant ≡ cond s l.constant (pos 1 -ℤ l.constant)
+literal-constant true l = refl
+literal-constant false l = refl

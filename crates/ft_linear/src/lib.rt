@@ -23,4 +23,4 @@ pub use lines::{Line, literal_constant, literal_factor};
 pub use marks::Marks;
 pub use node::Node;
 pub use part::Part;
-pub use rules::{contradict, tighten};
+pub use rules::{contradict, single_span, tighten};

@@ -108,7 +108,7 @@ pub fn are_lines(formula: &Formula, part: &Part, marks: &Marks, lines: &[Line]) 
 }
 
 /// The factor of an unknown in a form, whose unknowns rise.
-fn factor_of(factors: &[(u32, i64)], unknown: u32) -> i64
+pub fn factor_of(factors: &[(u32, i64)], unknown: u32) -> i64
     requires { AreRising 0 factors.now }
     ensures value { result ≡ factor_of unknown factors.now }
     ensures small { IsSmall result }

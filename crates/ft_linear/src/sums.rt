@@ -51,7 +51,7 @@ fn highest(factor: i64, span: Span) -> i128
 }
 
 /// The factor times the end of the span that makes it least.
-fn lowest(factor: i64, span: Span) -> i128
+pub fn lowest(factor: i64, span: Span) -> i128
     requires { IsSmall factor }
     ensures value { result ≡ low_end factor span }
     ensures small { unsigned_abs result ≤ product_most }

@@ -1,6 +1,6 @@
 -- What the values of atoms say of each node: its value, and the literals that it forces where it is required to be true or false.
 use Rattle.std.specs.Prelude.{ℕ, Bool, true, false, not, ◌&&◌, List, map, nat_eq, count_by, if◌then◌else◌}
-use Rattle.std.specs.List.{list_all, list_any}
+use Rattle.std.specs.List.{list_any}
 use Rattle.ft_linear.specs.declared.node.Node.{Node, Node-F, fold-Node}
 use Rattle.ft_linear.specs.declared.node.Node.TheOpen as layer
 use Rattle.ft_base.specs.declared.three.Three.{Three}

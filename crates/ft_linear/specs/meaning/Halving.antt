@@ -1,5 +1,5 @@
 -- Forced literals that leave an unknown at most half of its values by their own line and the bounds of their other unknowns.
-use Rattle.std.specs.Prelude.{◌≡◌, ◌≢◌, ◌≤◌, ◌<◌, ℕ, ℤ, pos, ◌+ℤ◌, ◌-ℤ◌, ◌*ℤ◌, ◌≤ℤ◌, int_lt, int_le, nat_eq, not, Bool, true, false, List, [], ◌∷◌, map, filter, length, Some, slice_get, unsigned_abs, if◌then◌else◌}
+use Rattle.std.specs.Prelude.{◌≡◌, ◌≢◌, ◌≤◌, ℕ, ℤ, pos, ◌+ℤ◌, ◌-ℤ◌, ◌*ℤ◌, int_lt, int_le, nat_eq, not, Bool, true, List, ◌∷◌, map, filter, length, Some, slice_get, unsigned_abs, if◌then◌else◌}
 use Rattle.ft_linear.specs.declared.lines.Line.{Line}
 use Rattle.ft_linear.specs.declared.lines.Line.TheVariants.{Atom, Upper, Lower}
 use Rattle.ft_linear.specs.meaning.Form.{Factor, LinView, span_at}

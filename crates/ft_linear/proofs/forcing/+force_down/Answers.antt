@@ -5,8 +5,8 @@ use Rattle.ft_linear.specs.judging.Slots.{value_at}
 use Rattle.ft_linear.proofs.ForcingLemmas.{some-slots, inner-Not, inner-And, inner-Or, root-And, root-Or, slots-left, value-here, size-fits, starts-next, adds-step, adds-At, adds-Not, adds-And, adds-Or, nothing-And, nothing-Or}
 use Rattle.ft_linear.proofs.forcing.+force_down.Goals as goal
 
-pub force_down-inner_slots-requires : goal.force_down-inner_slots-requires
-force_down-inner_slots-requires t c = some-slots (value_at c.args.values.now) c.args.node.now c.args.slots.now c.requires
+pub force_down-slots_after-requires : goal.force_down-slots_after-requires
+force_down-slots_after-requires t c = some-slots (value_at c.args.values.now) c.args.node.now c.args.slots.now c.requires
 
 pub force_down-root_slot-root-requires : goal.force_down-root_slot-root-requires
 force_down-root_slot-root-requires t c = some-slots (value_at c.args.values.now) c.args.node.now c.args.slots.now c.requires
@@ -17,19 +17,19 @@ force_down-root_slot-root-requires-in-Or t c = some-slots (value_at c.args.value
 pub force_down-force_down-requires : goal.force_down-force_down-requires
 force_down-force_down-requires t c = (
   search (rules, the_lemmas),
-  inner-Not (value_at c.args.values.now) c.get.result.now c.args.node.now c.args.slots.now c.inner_slots.result.now (c.in-Not.is ∙ ap Not (sym c.get.ensures)) c.requires c.inner_slots.ensures,
+  inner-Not (value_at c.args.values.now) c.get.result.now c.args.node.now c.args.slots.now c.slots_after.result.now (c.in-Not.is ∙ ap Not (sym c.get.ensures)) c.requires c.slots_after.ensures,
 )
 
 pub force_down-force_parts-requires : goal.force_down-force_parts-requires
 force_down-force_parts-requires t c = (
   search (rules, the_lemmas),
-  inner-And (value_at c.args.values.now) c.as_slice.result.now c.args.node.now c.args.slots.now c.inner_slots-then-is_asked.result.now (c.in-And.is ∙ ap And (sym c.as_slice.ensures)) c.requires c.inner_slots-then-is_asked.ensures,
+  inner-And (value_at c.args.values.now) c.as_slice.result.now c.args.node.now c.args.slots.now c.slots_after-then-is_asked.result.now (c.in-And.is ∙ ap And (sym c.as_slice.ensures)) c.requires c.slots_after-then-is_asked.ensures,
 )
 
 pub force_down-force_parts-requires-then-is_asked-2 : goal.force_down-force_parts-requires-then-is_asked-2
 force_down-force_parts-requires-then-is_asked-2 t c = (
   search (rules, the_lemmas),
-  inner-Or (value_at c.args.values.now) c.as_slice-then-is_asked-2.result.now c.args.node.now c.args.slots.now c.inner_slots-then-is_asked-2.result.now (c.in-Or.is ∙ ap Or (sym c.as_slice-then-is_asked-2.ensures)) c.requires c.inner_slots-then-is_asked-2.ensures,
+  inner-Or (value_at c.args.values.now) c.as_slice-then-is_asked-2.result.now c.args.node.now c.args.slots.now c.slots_after-then-is_asked-2.result.now (c.in-Or.is ∙ ap Or (sym c.as_slice-then-is_asked-2.ensures)) c.requires c.slots_after-then-is_asked-2.ensures,
 )
 
 pub force_down-returns-in-At : goal.force_down-returns-in-At
