@@ -1,14 +1,13 @@
 -- Difference lines as a list.
-use Rattle.std.proofs.Common.{◌≡◌, ◌∙◌, ◌⊎◌, inl, inr, sym, ap, subst, refl, ℕ, zero, suc, ◌+◌, ◌<◌, ◌≤◌, ◌↔◌, ℤ, pos, negsuc, neg_ℤ, ◌+ℤ◌, ◌-ℤ◌, ◌*ℤ◌, ◌≤ℤ◌, Bool, true, false, ◌&&◌, ◌||◌, cond, List, [], ◌∷◌, ◌++◌, length, Option, Some, None, slice_get, All, arith, w64}
-use Rattle.std.specs.Ordering.{int_eq}
+use Rattle.std.proofs.Common.{◌≡◌, ◌∙◌, inl, inr, sym, ap, subst, refl, ℕ, zero, suc, ◌+◌, ◌<◌, ◌↔◌, ℤ, pos, negsuc, neg_ℤ, ◌+ℤ◌, ◌-ℤ◌, ◌*ℤ◌, ◌≤ℤ◌, Bool, true, false, ◌&&◌, ◌||◌, cond, List, [], ◌∷◌, ◌++◌, length, Option, Some, None, slice_get, All, arith, w64}
 use Rattle.std.proofs.lemmas.Bool.{cases_Bool, cases_eq}
 use Rattle.std.proofs.lemmas.Int.{ints, to_z-of_z, fits_signed_from_abs}
 use mir.Val.{to_z, of_z}
 use Rattle.std.proofs.lemmas.List.Elements.{All-nil, All-cons, All-head, All-tail, All-append}
-use Rattle.std.proofs.lemmas.Option.{slice_get_within, cond_some, get_or_from_slice_get}
+use Rattle.std.proofs.lemmas.Option.{slice_get_within, get_or_from_slice_get}
 use Rattle.ft_diff.specs.declared.diff.Diff.{Diff}
-use Rattle.ft_diff.specs.meaning.Differences.{Meets, IsSolution}
-use Rattle.ft_linear.specs.meaning.Form.{Factor, LinView, InArea, HasUnknowns, IsSmall, sum_at, form_at}
+use Rattle.ft_diff.specs.meaning.Differences.{Meets}
+use Rattle.ft_linear.specs.meaning.Form.{Factor, LinView, InArea, HasUnknowns, IsSmall, sum_at}
 use Rattle.ft_linear.specs.meaning.Formula.{FormulaView, IsOver as IsFormulaOver}
 use Rattle.ft_linear.specs.meaning.Part.{PartView, forced}
 use Rattle.ft_linear.specs.meaning.Rules.{literal_form}
@@ -151,7 +150,8 @@ same-difference false l = negated l.factors
     negated : (fs : List Factor) → is_difference (literal_form false (record { factors = fs; constant = pos 0 })).factors ≡ is_difference fs
     negated [] = refl
     negated (f ∷ []) = rw (one-negated f.1, minus-negated f.1) (or-swapped (is_minus_one f.1) (is_one f.1))
-    negated (f ∷ g ∷ []) = rw (one-negated f.1, minus-negated f.1, one-negated g.1, minus-negated g.1) (or-swapped (is_minus_one f.1 && is_one g.1) (is_one f.1 && is_minus_one g.1))
+    negated (f ∷ g ∷ []) =
+        rw (one-negated f.1, minus-negated f.1, one-negated g.1, minus-negated g.1) (or-swapped (is_minus_one f.1 && is_one g.1) (is_one f.1 && is_minus_one g.1))
     negated (f ∷ g ∷ h ∷ fs) = refl
 
 all-left : {X : Type 0} (P : X → Type 0) (xs ys : List X) → All P (xs ++ ys) → All P xs
@@ -164,13 +164,15 @@ all-right P (x ∷ xs) ys h = all-right P xs ys (All-tail P x (xs ++ ys) h)
 
 module _ (f : FormulaView) (p : PartView) (x : ℕ → ℤ) where
   -- a solution meets the lines
-  line-met : (a : ℕ) (s : Bool) (o : Option LinView) → Solves f p x → slice_get f.atoms a ≡ o → All (Meets x) (line_if (forced f p a s) (form_diff s o))
+  line-met : (a : ℕ) (s : Bool) (o : Option LinView) → Solves f p x → slice_get f.atoms a ≡ o
+      → All (Meets x) (line_if (forced f p a s) (form_diff s o))
   line-met a s o solves got = elim (cases_Bool (forced f p a s)) [
     | inl so ↦ rw so (by-form o got so)
     | inr isnt ↦ rw isnt (All-nil (Meets x))
   ]
     where
-      by-line : (l : LinView) (m : Option Diff) → slice_get f.atoms a ≡ Some l → forced f p a s ≡ true → form_diff s (Some l) ≡ m → All (Meets x) (line_if true m)
+      by-line : (l : LinView) (m : Option Diff) → slice_get f.atoms a ≡ Some l → forced f p a s ≡ true → form_diff s (Some l) ≡ m
+          → All (Meets x) (line_if true m)
       by-line l None got so is = All-nil (Meets x)
       by-line l (Some d) got so is =
           let fs = (literal_form s l).factors in
@@ -194,7 +196,8 @@ module _ (f : FormulaView) (p : PartView) (x : ℕ → ℤ) where
     | inr other ↦ at-line n a (grind (arith, below, other)) (all-left (Meets x) (lines_below f p n) (lines_at f p n) all)
   ]
 
-  of-literal : (a : ℕ) (s : Bool) → All (Meets x) (lines_at f p a) → All (Meets x) (line_if (forced f p a s) (form_diff s (slice_get f.atoms a)))
+  of-literal : (a : ℕ) (s : Bool) → All (Meets x) (lines_at f p a)
+      → All (Meets x) (line_if (forced f p a s) (form_diff s (slice_get f.atoms a)))
   of-literal a true all = all-left (Meets x) _ _ all
   of-literal a false all = all-right (Meets x) (line_if (forced f p a true) (form_diff true (slice_get f.atoms a))) _ all
 
@@ -210,7 +213,8 @@ module _ (f : FormulaView) (p : PartView) (x : ℕ → ℤ) where
   }
 
 -- the lines of one more atom
-pub lines-more : (f : FormulaView) (p : PartView) (a : ℕ) (l : LinView) (yes_forced no_forced : Bool) → slice_get f.atoms a ≡ Some l → yes_forced ≡ forced f p a true → no_forced ≡ forced f p a false
+pub lines-more : (f : FormulaView) (p : PartView) (a : ℕ) (l : LinView) (yes_forced no_forced : Bool) → slice_get f.atoms a ≡ Some l
+    → yes_forced ≡ forced f p a true → no_forced ≡ forced f p a false
     → lines_below f p (a + 1) ≡ lines_below f p a ++ (line_if yes_forced (form_diff true (Some l)) ++ line_if no_forced (form_diff false (Some l)))
 lines-more f p a l yes_forced no_forced got y n =
     let same : a + 1 ≡ suc a = omega arith in
@@ -223,7 +227,8 @@ lines-more f p a l yes_forced no_forced got y n =
     sn = sym n
 
 pub over-form : (n : ℕ) (f : FormulaView) (a : ℕ) (l : LinView) → IsFormulaOver n f → slice_get f.atoms a ≡ Some l → HasUnknowns n l.factors
-over-form n f a l over is = subst (λ (m : LinView). HasUnknowns n m.factors) (get_or_from_slice_get f.atoms a l l is) (over a l (slice_get_within f.atoms a l is))
+over-form n f a l over is =
+    subst (λ (m : LinView). HasUnknowns n m.factors) (get_or_from_slice_get f.atoms a l l is) (over a l (slice_get_within f.atoms a l is))
 
 -- a small number is the same when it is read
 pub read-same : (z : ℤ) → IsSmall z → to_z w64 (of_z w64 z) ≡ z
@@ -236,11 +241,14 @@ pub one-value : (value : Bool) (factor : Factor) (constant f b : ℤ) (r : Optio
 one-value true factor constant f b r ef eb h = h constant eb ∙ (λ i. diff_from ((factor.0, ef i) ∷ []) constant)
 one-value false factor constant f b r ef eb h = h (pos 1 -ℤ constant) eb ∙ (λ i. diff_from ((factor.0, ef i) ∷ []) (pos 1 -ℤ constant))
 
-pub two-value : (value : Bool) (first second : Factor) (constant f g b : ℤ) (r : Option Diff) → f ≡ cond value first.1 (neg_ℤ first.1) → g ≡ cond value second.1 (neg_ℤ second.1)
+pub two-value : (value : Bool) (first second : Factor) (constant f g b : ℤ) (r : Option Diff) → f ≡ cond value first.1 (neg_ℤ first.1)
+    → g ≡ cond value second.1 (neg_ℤ second.1)
     → b ≡ neg_ℤ (cond value constant (pos 1 -ℤ constant)) → ((c : ℤ) → b ≡ neg_ℤ c → r ≡ diff_from ((first.0, f) ∷ (second.0, g) ∷ []) c)
     → r ≡ form_diff value (Some (record { factors = first ∷ second ∷ []; constant = constant }))
-two-value true first second constant f g b r ef eg eb h = h constant eb ∙ (λ i. diff_from ((first.0, ef i) ∷ (second.0, eg i) ∷ []) constant)
-two-value false first second constant f g b r ef eg eb h = h (pos 1 -ℤ constant) eb ∙ (λ i. diff_from ((first.0, ef i) ∷ (second.0, eg i) ∷ []) (pos 1 -ℤ constant))
+two-value true first second constant f g b r ef eg eb h =
+    h constant eb ∙ (λ i. diff_from ((first.0, ef i) ∷ (second.0, eg i) ∷ []) constant)
+two-value false first second constant f g b r ef eg eb h =
+    h (pos 1 -ℤ constant) eb ∙ (λ i. diff_from ((first.0, ef i) ∷ (second.0, eg i) ∷ []) (pos 1 -ℤ constant))
 
 pub by-value : (value : Bool) (a b : ℤ) → a ≡ b → cond value a (neg_ℤ a) ≡ cond value b (neg_ℤ b)
 by-value value a b e = ap (λ (z : ℤ). cond value z (neg_ℤ z)) e

@@ -10,7 +10,8 @@ use Rattle.ft_linear.proofs.Whole.{divided-form, quotient-is}
 
 pub literals-hold : LiteralsHold
 literals-hold x true l = refl
-literals-hold x false l = ap (λ (s : ℤ). int_le (s +ℤ (pos 1 -ℤ l.constant)) (pos 0)) (sum-negated x l.factors) ∙ opposite (sum_at x l.factors) l.constant
+literals-hold x false l =
+    ap (λ (s : ℤ). int_le (s +ℤ (pos 1 -ℤ l.constant)) (pos 0)) (sum-negated x l.factors) ∙ opposite (sum_at x l.factors) l.constant
   where
     opposite : (s c : ℤ) → int_le (neg_ℤ s +ℤ (pos 1 -ℤ c)) (pos 0) ≡ not (int_le (s +ℤ c) (pos 0))
     opposite s c = elim (cases_Bool (int_le (s +ℤ c) (pos 0))) [

@@ -78,9 +78,11 @@ module _ (atoms : ℕ → Three) (count : ℕ) (fixed_below : (a : ℕ) → a < 
   abbrev Below : Node → Type 0
   Below node = atoms_below count node ≡ true → IsSettled (value_of atoms node)
 
-  each-part : (parts : List (With Below)) → list_all (atoms_below count) (bare parts) ≡ true → AreSettled (map (value_of atoms) (bare parts))
+  each-part : (parts : List (With Below)) → list_all (atoms_below count) (bare parts) ≡ true
+      → AreSettled (map (value_of atoms) (bare parts))
   each-part [] e = tt
-  each-part (p ∷ parts) e = let both = and_parts (atoms_below count p.0) (list_all (atoms_below count) (bare parts)) e in (p.1 both.0, each-part parts both.1)
+  each-part (p ∷ parts) e =
+      let both = and_parts (atoms_below count p.0) (list_all (atoms_below count) (bare parts)) e in (p.1 both.0, each-part parts both.1)
 
   moved : (v w : Three) → v ≡ w → IsSettled w → IsSettled v
   moved v w e h m = h (sym e ∙ m)
@@ -112,7 +114,8 @@ agreed-or-against (Some true) Yes h e = cc e
 agreed-or-against (Some false) No h e = cc e
 agreed-or-against (Some false) Yes h e = refl
 
-some-against : (q r : ℕ → Bool) (from n : ℕ) → ((a : ℕ) → a < from + n → q a ≡ false → r a ≡ true) → list_all q (range_with_len from n) ≡ false → list_any r (range_with_len from n) ≡ true
+some-against : (q r : ℕ → Bool) (from n : ℕ) → ((a : ℕ) → a < from + n → q a ≡ false → r a ≡ true)
+    → list_all q (range_with_len from n) ≡ false → list_any r (range_with_len from n) ≡ true
 some-against q r from zero h e = cc e
 some-against q r from (suc n) h e = elim (cases_Bool (q from)) [
   | inl so ↦ elim (cases_Bool (r from)) [
@@ -122,7 +125,8 @@ some-against q r from (suc n) h e = elim (cases_Bool (q from)) [
   | inr isnt ↦ rw (h from (omega arith) isnt) refl
 ]
 
-by-answer : (root : Three) (a b c : Bool) → IsSettled root → (c ≡ false → a ≡ true) → cond (is_no root || a || b) No (cond (is_yes root && c) Yes Maybe) ≡ Maybe → ⊥
+by-answer : (root : Three) (a b c : Bool) → IsSettled root → (c ≡ false → a ≡ true)
+    → cond (is_no root || a || b) No (cond (is_yes root && c) Yes Maybe) ≡ Maybe → ⊥
 by-answer No a b c s h e = cc e
 by-answer Maybe a b c s h e = s refl
 by-answer Yes true b c s h e = cc e

@@ -159,7 +159,8 @@ module _ (f : FormulaView) (p : PartView) where
 
   bounds-lines : (gs : List Factor) → Fit gs → list_all (is_line f p) (map cancelling gs) ≡ true
   bounds-lines [] fit = refl
-  bounds-lines (g ∷ gs) fit = and_from (is_line f p (cancelling g)) (list_all (is_line f p) (map cancelling gs)) (bound-line g.0 g.1 fit.0 fit.1 fit.2) (bounds-lines gs fit.3)
+  bounds-lines (g ∷ gs) fit =
+      and_from (is_line f p (cancelling g)) (list_all (is_line f p) (map cancelling gs)) (bound-line g.0 g.1 fit.0 fit.1 fit.2) (bounds-lines gs fit.3)
 
   module _ (a : ℕ) (s : Bool) (u : ℕ) (m : LinView) (is : line_form f p (Atom a s 1) ≡ Some m) (rising : AreRising 0 m.factors)
       (within : HasUnknowns (length p.spans) m.factors) (few : length m.factors ≤ 3) (inside : u < length p.spans) where
@@ -203,20 +204,25 @@ module _ (f : FormulaView) (p : PartView) where
     same-span = λ i. narrowed (own-factor i) (sum-constant i) (span_at p.spans u)
 
     tightens : (span : ℤ × ℤ) → Tightens f p u lines span ↔ (single_span p.spans u m ≡ Some span)
-    tightens span = (λ t. sym same-span ∙ t.narrows, λ e. record { unknown = inside; lines = are; alone = alone-there; narrows = same-span ∙ e })
+    tightens span =
+        (λ t. sym same-span ∙ t.narrows, λ e. record { unknown = inside; lines = are; alone = alone-there; narrows = same-span ∙ e })
 
 rising-negated : (from : ℕ) (fs : List Factor) → AreRising from fs → AreRising from (negated_factors fs)
 rising-negated from [] h = tt
-rising-negated from (f ∷ fs) h = let small : IsSmall f.1 = h.2 in (h.0, λ e. h.1 (omega (arith, ints, e)), omega (arith, ints, small), rising-negated (f.0 + 1) fs h.3)
+rising-negated from (f ∷ fs) h =
+    let small : IsSmall f.1 = h.2 in (h.0, λ e. h.1 (omega (arith, ints, e)), omega (arith, ints, small), rising-negated (f.0 + 1) fs h.3)
 
 within-negated : (n : ℕ) (fs : List Factor) → HasUnknowns n fs → HasUnknowns n (negated_factors fs)
 within-negated n [] h = All-nil (λ (g : Factor). g.0 < n)
-within-negated n (f ∷ fs) h = All-cons (λ (g : Factor). g.0 < n) (f.0, neg_ℤ f.1) (negated_factors fs) (All-head (λ (g : Factor). g.0 < n) f fs h) (within-negated n fs (All-tail (λ (g : Factor). g.0 < n) f fs h))
+within-negated n (f ∷ fs) h =
+    All-cons (λ (g : Factor). g.0 < n) (f.0, neg_ℤ f.1) (negated_factors fs) (All-head (λ (g : Factor). g.0 < n) f fs h) (within-negated n fs (All-tail (λ (g : Factor). g.0 < n) f fs h))
 
 pub singles-tighten : SinglesTighten
-singles-tighten f p a s u l span got proper within few is_forced inside = by-sign s (ap (λ (b : Bool). cond b (option_map (literal_form s) (slice_get f.atoms a)) None) is_forced ∙ ap (option_map (literal_form s)) got)
+singles-tighten f p a s u l span got proper within few is_forced inside =
+    by-sign s (ap (λ (b : Bool). cond b (option_map (literal_form s) (slice_get f.atoms a)) None) is_forced ∙ ap (option_map (literal_form s)) got)
   where
-    by-sign : (s : Bool) → line_form f p (Atom a s 1) ≡ Some (literal_form s l) → Tightens f p u (single_lines a s u l) span ↔ (single_span p.spans u (literal_form s l) ≡ Some span)
+    by-sign : (s : Bool) → line_form f p (Atom a s 1) ≡ Some (literal_form s l)
+        → Tightens f p u (single_lines a s u l) span ↔ (single_span p.spans u (literal_form s l) ≡ Some span)
     by-sign true is = tightens f p a true u l is proper.rising within few inside span
     by-sign false is =
         let long = length-map {B = Factor} l.factors (λ (g : Factor). (g.0, neg_ℤ g.1)) in
@@ -238,11 +244,13 @@ least-negated spans (f ∷ fs) = let e = end-negated f.1 (span_at spans f.0) in 
         let l : low_end (pos (suc n)) t ≡ pos (suc n) *ℤ t.0 = ap (λ (b : Bool). pos (suc n) *ℤ cond b t.1 t.0) (not-under (suc n)) in
         omega (arith, ints, a, l)
 
-pub literal-least : (spans : List (ℤ × ℤ)) (s : Bool) (l : LinView) → least spans (literal_form s l).factors ≡ cond s (least spans l.factors) (neg_ℤ (most spans l.factors))
+pub literal-least : (spans : List (ℤ × ℤ)) (s : Bool) (l : LinView)
+    → least spans (literal_form s l).factors ≡ cond s (least spans l.factors) (neg_ℤ (most spans l.factors))
 literal-least spans true l = refl
 literal-least spans false l = least-negated spans l.factors
 
-pub literal-factor_of : (u : ℕ) (s : Bool) (l : LinView) → factor_of u (literal_form s l).factors ≡ cond s (factor_of u l.factors) (neg_ℤ (factor_of u l.factors))
+pub literal-factor_of : (u : ℕ) (s : Bool) (l : LinView)
+    → factor_of u (literal_form s l).factors ≡ cond s (factor_of u l.factors) (neg_ℤ (factor_of u l.factors))
 literal-factor_of u true l = refl
 literal-factor_of u false l = factor_of-negated u l.factors
 

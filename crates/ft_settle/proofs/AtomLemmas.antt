@@ -1,5 +1,5 @@
 -- The atoms of a settled formula: in lowest terms, the first factor positive, and no two the same.
-use Rattle.std.proofs.Common.{◌≡◌, ◌≢◌, ◌∙◌, inl, inr, sym, ap, subst, refl, ℕ, zero, suc, ◌+◌, ◌*◌, ◌<◌, ◌≤◌, ℤ, pos, negsuc, neg_ℤ, ◌*ℤ◌, Bool, true, false, not, ◌&&◌, cond, map, List, [], ◌∷◌, ◌++◌, length, All, arith}
+use Rattle.std.proofs.Common.{◌≡◌, ◌∙◌, inl, inr, sym, ap, subst, refl, ℕ, zero, suc, ◌*◌, ◌<◌, ◌≤◌, ℤ, pos, negsuc, neg_ℤ, Bool, true, false, not, cond, map, List, [], ◌∷◌, ◌++◌, length, All, arith}
 use Rattle.std.specs.Prelude.{unsigned_abs, int_lt}
 use Rattle.std.specs.Cmp.{IsEquivalence}
 use Rattle.std.specs.Int.{◌∣◌}
@@ -15,8 +15,7 @@ use Rattle.ft_base.specs.Division.{floor_of}
 use Rattle.ft_linear.specs.laws.Forms.{QuotientIsExact}
 use Rattle.ft_linear.specs.meaning.Form.{Factor, LinView}
 use Rattle.ft_settle.specs.declared.raw.Raw.{Raw}
-use Rattle.ft_settle.specs.declared.raw.Raw.TheVariants.{Le, Not, And, Or}
-use Rattle.ft_settle.specs.meaning.Canonical.{AreCanonical, IsCanonical, canonical, divided, divides_all, gcd_of, greatest_divisor, is_positive}
+use Rattle.ft_settle.specs.meaning.Canonical.{AreCanonical, IsCanonical, canonical, divides_all, gcd_of, greatest_divisor, is_positive}
 use Rattle.ft_settle.specs.meaning.Settled.{atoms_in, forms_of, same_form, with_form, with_forms}
 use Rattle.ft_settle.specs.settling.Factors.{all_begin_well, begins_well, quotient_of}
 use Rattle.ft_settle.proofs.CanonicalLemmas.{DividesEach, abs-some, exact, gcd-divides, no-zero, not-zero, of-test, quotient-some, quotients-are, signed-some, test-of}
@@ -48,11 +47,13 @@ one-divisor g (suc (suc e)) h some le =
 
 -- the quotient of a number that isn't negative isn't, and minus that of a negative one
 not-under : (z : ℤ) (g : ℕ) → int_lt (cond (not (int_lt z (pos 0))) (floor_of z (pos g)) (neg_ℤ (floor_of z (pos g)))) (pos 0) ≡ false
-not-under (pos n) g = ap (λ (b : Bool). int_lt (cond (not b) (floor_of (pos n) (pos g)) (neg_ℤ (floor_of (pos n) (pos g)))) (pos 0)) (up n) ∙ up _
+not-under (pos n) g =
+    ap (λ (b : Bool). int_lt (cond (not b) (floor_of (pos n) (pos g)) (neg_ℤ (floor_of (pos n) (pos g)))) (pos 0)) (up n) ∙ up _
   where
     up : (k : ℕ) → int_lt (pos k) (pos 0) ≡ false
     up k = grind (arith, ints)
-not-under (negsuc n) g = ap (λ (b : Bool). int_lt (cond (not b) (floor_of (negsuc n) (pos g)) (neg_ℤ (floor_of (negsuc n) (pos g)))) (pos 0)) (down n) ∙ up _
+not-under (negsuc n) g =
+    ap (λ (b : Bool). int_lt (cond (not b) (floor_of (negsuc n) (pos g)) (neg_ℤ (floor_of (negsuc n) (pos g)))) (pos 0)) (down n) ∙ up _
   where
     down : (k : ℕ) → int_lt (negsuc k) (pos 0) ≡ true
     down k = grind (arith, ints)
@@ -61,7 +62,8 @@ not-under (negsuc n) g = ap (λ (b : Bool). int_lt (cond (not b) (floor_of (negs
     up k = grind (arith, ints)
 
 module _ (quotient : QuotientIsExact) where
-  times-each : (b : Bool) (g d : ℕ) (fs : List Factor) → 0 < g → DividesEach g fs → DividesEach d (map (quotient_of b g) fs) → DividesEach (g * d) fs
+  times-each : (b : Bool) (g d : ℕ) (fs : List Factor) → 0 < g → DividesEach g fs → DividesEach d (map (quotient_of b g) fs)
+      → DividesEach (g * d) fs
   times-each b g d [] h each parts = tt
   times-each b g d (f ∷ fs) h each parts =
       let q = floor_of f.1 (pos g) in
@@ -69,7 +71,8 @@ module _ (quotient : QuotientIsExact) where
       let divides : d ∣ unsigned_abs q = subst (λ (n : ℕ). d ∣ n) (abs-signed b q) parts.0 in
       (subst (λ (n : ℕ). g * d ∣ n) (sym size) (mul-dvd-mul_left d g divides), times-each b g d fs h each.1 parts.1)
 
-  quotients-lowest : (fs : List Factor) → 0 < length fs → begins_well fs ≡ true → AreCanonical (map (quotient_of (is_positive fs) (gcd_of fs)) fs)
+  quotients-lowest : (fs : List Factor) → 0 < length fs → begins_well fs ≡ true
+      → AreCanonical (map (quotient_of (is_positive fs) (gcd_of fs)) fs)
   quotients-lowest [] some well = absurd (omega (arith, some))
   quotients-lowest (f ∷ fs) some well =
       let b : Bool = is_positive (f ∷ fs) in
@@ -88,7 +91,8 @@ module _ (quotient : QuotientIsExact) where
       }
 
   is-canonical : (l : LinView) → 0 < length l.factors → begins_well l.factors ≡ true → IsCanonical (canonical l)
-  is-canonical l some well = subst (λ (m : LinView). IsCanonical m) (sym (quotients-are (is_positive l.factors) (gcd_of l.factors) l)) (quotients-lowest l.factors some well)
+  is-canonical l some well =
+      subst (λ (m : LinView). IsCanonical m) (sym (quotients-are (is_positive l.factors) (gcd_of l.factors) l)) (quotients-lowest l.factors some well)
 
   abbrev Gives : Raw → Type 0
   Gives raw = all_begin_well raw ≡ true → All IsCanonical (forms_of raw)
@@ -99,7 +103,8 @@ module _ (quotient : QuotientIsExact) where
       let long = ap length is in
       All-cons IsCanonical (canonical l) [] (is-canonical l (omega (arith, long)) well) (All-nil IsCanonical)
 
-  of-parts : (parts : List (WithRaw Gives)) → list_all all_begin_well (bare_raw parts) ≡ true → All IsCanonical (flat_map forms_of (bare_raw parts))
+  of-parts : (parts : List (WithRaw Gives)) → list_all all_begin_well (bare_raw parts) ≡ true
+      → All IsCanonical (flat_map forms_of (bare_raw parts))
   of-parts [] well = All-nil IsCanonical
   of-parts (p ∷ parts) well = let (first, rest) = and_parts (all_begin_well p.0) (list_all all_begin_well (bare_raw parts)) well in
       All-append IsCanonical (forms_of p.0) (flat_map forms_of (bare_raw parts)) (p.1 first) (of-parts parts rest)

@@ -1,5 +1,5 @@
 -- The atoms of a settled formula stand in the order of their first occurrences.
-use Rattle.std.proofs.Common.{◌≡◌, ◌∙◌, ◌⊎◌, inl, inr, sym, ap, subst, refl, ℕ, zero, suc, ◌+◌, ◌<◌, ◌≤◌, Bool, true, false, cond, List, [], ◌∷◌, ◌++◌, length, Some, slice_get, append-nil, append_assoc, arith}
+use Rattle.std.proofs.Common.{◌≡◌, ◌∙◌, ◌⊎◌, inl, inr, sym, ap, subst, refl, ℕ, zero, suc, ◌<◌, Bool, true, cond, List, [], ◌∷◌, ◌++◌, length, Some, slice_get, append-nil, append_assoc, arith}
 use Rattle.std.specs.List.{list_any}
 use Rattle.std.proofs.lemmas.Bool.{cases_Bool}
 use Rattle.std.proofs.lemmas.List.{length-append}
@@ -18,7 +18,8 @@ at-end : (xs : List LinView) (y : LinView) → slice_get (xs ++ y ∷ []) (lengt
 at-end [] y = refl
 at-end (x ∷ xs) y = at-end xs y
 
-of-push : (xs : List LinView) (y : LinView) (k : ℕ) (l : LinView) → slice_get (xs ++ y ∷ []) k ≡ Some l → (slice_get xs k ≡ Some l) ⊎ ((k ≡ length xs) × (y ≡ l))
+of-push : (xs : List LinView) (y : LinView) (k : ℕ) (l : LinView) → slice_get (xs ++ y ∷ []) k ≡ Some l
+    → (slice_get xs k ≡ Some l) ⊎ ((k ≡ length xs) × (y ≡ l))
 of-push [] y zero l e = inr (refl, cc e)
 of-push [] y (suc k) l e = cc e
 of-push (x ∷ xs) y zero l e = inl e
@@ -27,7 +28,8 @@ of-push (x ∷ xs) y (suc k) l e = elim (of-push xs y k l e) [
   | inr (last, same) ↦ inr (ap suc last, same)
 ]
 
-before-end : (xs : List LinView) (y : LinView) (k : ℕ) (l : LinView) → k < length xs → slice_get (xs ++ y ∷ []) k ≡ Some l → slice_get xs k ≡ Some l
+before-end : (xs : List LinView) (y : LinView) (k : ℕ) (l : LinView) → k < length xs → slice_get (xs ++ y ∷ []) k ≡ Some l
+    → slice_get xs k ≡ Some l
 before-end xs y k l within e = elim (of-push xs y k l e) [
   | inl here ↦ here
   | inr (last, same) ↦ absurd (omega (arith, within, last))
@@ -80,7 +82,8 @@ module _ (done atoms : List LinView) (y : LinView) (h : AreFirstOccurrences done
     | inr isnt ↦ subst (λ (b : Bool). AreFirstOccurrences (done ++ y ∷ []) (cond b atoms (atoms ++ y ∷ []))) (sym isnt) added
   ]
 
-pub first-occurrences : (done rest atoms : List LinView) → AreFirstOccurrences done atoms → AreFirstOccurrences (done ++ rest) (with_forms atoms rest)
+pub first-occurrences : (done rest atoms : List LinView) → AreFirstOccurrences done atoms
+    → AreFirstOccurrences (done ++ rest) (with_forms atoms rest)
 first-occurrences done [] atoms h = subst (λ (l : List LinView). AreFirstOccurrences l atoms) (sym (append-nil done)) h
 first-occurrences done (y ∷ ys) atoms h =
     subst (λ (l : List LinView). AreFirstOccurrences l (with_forms (with_form atoms y) ys)) (append_assoc done (y ∷ []) ys)

@@ -1,5 +1,5 @@
 -- The difference lines of a part as a list.
-use Rattle.std.specs.Prelude.{◌≡◌, ℕ, zero, suc, ℤ, pos, negsuc, neg_ℤ, Bool, true, false, List, [], ◌∷◌, ◌++◌, Option, Some, None, slice_get, if◌then◌else◌}
+use Rattle.std.specs.Prelude.{ℕ, zero, suc, ℤ, neg_ℤ, Bool, true, false, List, [], ◌∷◌, ◌++◌, Option, Some, None, slice_get, if◌then◌else◌}
 use Rattle.ft_diff.specs.declared.diff.Diff.{Diff}
 use Rattle.ft_linear.specs.meaning.Form.{Factor, LinView}
 use Rattle.ft_linear.specs.meaning.Formula.{FormulaView}
@@ -13,7 +13,8 @@ diff x y c = record { x = x; y = y; c = c }
 -- the line `factors + constant <= 0` as a difference
 abbrev pub diff_from : List Factor → ℤ → Option Diff
 diff_from [] c = None
-diff_from (f ∷ []) c = if is_one f.1 then Some (diff (Some f.0) None (neg_ℤ c)) else if is_minus_one f.1 then Some (diff None (Some f.0) (neg_ℤ c)) else None
+diff_from (f ∷ []) c =
+    if is_one f.1 then Some (diff (Some f.0) None (neg_ℤ c)) else if is_minus_one f.1 then Some (diff None (Some f.0) (neg_ℤ c)) else None
 diff_from (f ∷ g ∷ []) c =
     if is_one f.1 then (if is_minus_one g.1 then Some (diff (Some f.0) (Some g.0) (neg_ℤ c)) else None)
     else if is_minus_one f.1 then (if is_one g.1 then Some (diff (Some g.0) (Some f.0) (neg_ℤ c)) else None)
@@ -32,7 +33,8 @@ line_if true (Some d) = d ∷ []
 
 -- the difference lines of an atom's forced literals
 abbrev pub lines_at : FormulaView → PartView → ℕ → List Diff
-lines_at f p a = line_if (forced f p a true) (form_diff true (slice_get f.atoms a)) ++ line_if (forced f p a false) (form_diff false (slice_get f.atoms a))
+lines_at f p a =
+    line_if (forced f p a true) (form_diff true (slice_get f.atoms a)) ++ line_if (forced f p a false) (form_diff false (slice_get f.atoms a))
 
 -- and of the atoms below a number
 abbrev pub lines_below : FormulaView → PartView → ℕ → List Diff

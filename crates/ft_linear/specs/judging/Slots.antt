@@ -27,8 +27,10 @@ slot_over value only below = (value, record { value = value; only = only; size =
 abbrev pub layer_slots : (ℕ → Three) → Node-F Marked → Marked
 layer_slots atoms (layer.At atom) = slot_over (atoms atom) false []
 layer_slots atoms (layer.Not inner) = slot_over (three_not inner.0) false inner.1
-layer_slots atoms (layer.And parts) = slot_over (three_all (map (λ p. p.0) parts)) (only_of false (map (λ p. p.0) parts)) (flat_map (λ p. p.1) parts)
-layer_slots atoms (layer.Or parts) = slot_over (three_any (map (λ p. p.0) parts)) (only_of true (map (λ p. p.0) parts)) (flat_map (λ p. p.1) parts)
+layer_slots atoms (layer.And parts) =
+    slot_over (three_all (map (λ p. p.0) parts)) (only_of false (map (λ p. p.0) parts)) (flat_map (λ p. p.1) parts)
+layer_slots atoms (layer.Or parts) =
+    slot_over (three_any (map (λ p. p.0) parts)) (only_of true (map (λ p. p.0) parts)) (flat_map (λ p. p.1) parts)
 
 unfoldable pub marked : (ℕ → Three) → Node → Marked
 marked atoms = fold-Node Marked (layer_slots atoms)

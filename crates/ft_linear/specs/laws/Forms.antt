@@ -11,7 +11,8 @@ FactorsAreSmall = (from : ℕ) (fs : List Factor) (i : ℕ) (d : Factor) → Are
 
 -- the form of a literal is at most 0 exactly where its atom is as the literal says
 abbrev pub LiteralsHold : Type 0
-LiteralsHold = (x : ℕ → ℤ) (s : Bool) (l : LinView) → int_le (form_at x (literal_form s l)) (pos 0) ≡ same_bool s (int_le (form_at x l) (pos 0))
+LiteralsHold =
+    (x : ℕ → ℤ) (s : Bool) (l : LinView) → int_le (form_at x (literal_form s l)) (pos 0) ≡ same_bool s (int_le (form_at x l) (pos 0))
 
 -- a form with g times these factors is at most 0 exactly where the form with these factors and the constant divided by g, rounded up, is
 abbrev pub DividedHolds : Type 0

@@ -10,11 +10,13 @@ use Rattle.ft_linear.specs.meaning.Rules.{HoldsForced}
 
 -- where the truth is No, no point of the part satisfies the formula
 abbrev pub NoneWhereNo : Type 0
-NoneWhereNo = (f : FormulaView) (p : PartView) (x : ℕ → ℤ) → IsOver (length p.spans) f → truth_of f p ≡ No → PointOf f p x → Satisfies f x → ⊥
+NoneWhereNo =
+    (f : FormulaView) (p : PartView) (x : ℕ → ℤ) → IsOver (length p.spans) f → truth_of f p ≡ No → PointOf f p x → Satisfies f x → ⊥
 
 -- where it is Yes, each point of the part's area does
 abbrev pub AllWhereYes : Type 0
-AllWhereYes = (f : FormulaView) (p : PartView) (x : ℕ → ℤ) → IsOver (length p.spans) f → length p.decided ≡ length f.atoms → truth_of f p ≡ Yes
+AllWhereYes =
+    (f : FormulaView) (p : PartView) (x : ℕ → ℤ) → IsOver (length p.spans) f → length p.decided ≡ length f.atoms → truth_of f p ≡ Yes
     → InArea p.spans x → Satisfies f x
 
 -- a point of the part that satisfies the formula makes each forced literal true
@@ -27,7 +29,8 @@ DifferencesAreMet = (f : FormulaView) (p : PartView) (x : ℕ → ℤ) → IsOve
 
 -- an atom that is forced both ways makes the truth No
 abbrev pub NoWhereBothWays : Type 0
-NoWhereBothWays = (f : FormulaView) (p : PartView) (a : ℕ) → a < length f.atoms → forced f p a true ≡ true → forced f p a false ≡ true → truth_of f p ≡ No
+NoWhereBothWays =
+    (f : FormulaView) (p : PartView) (a : ℕ) → a < length f.atoms → forced f p a true ≡ true → forced f p a false ≡ true → truth_of f p ≡ No
 
 -- a part whose spans have one value each is never Maybe
 abbrev pub SettledAtOnePoint : Type 0

@@ -27,7 +27,8 @@ lower_form u s = record { factors = (u, negsuc 0) ∷ []; constant = s.0 }
 
 -- the form of a line, at most 0: a forced literal of an atom, or a bound of an unknown
 abbrev pub line_form : FormulaView → PartView → Line → Option LinView
-line_form f p (Atom number value times) = if forced f p number value then option_map (literal_form value) (slice_get f.atoms number) else None
+line_form f p (Atom number value times) =
+    if forced f p number value then option_map (literal_form value) (slice_get f.atoms number) else None
 line_form f p (Upper unknown times) = option_map (upper_form unknown) (slice_get p.spans unknown)
 line_form f p (Lower unknown times) = option_map (lower_form unknown) (slice_get p.spans unknown)
 

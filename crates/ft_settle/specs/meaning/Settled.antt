@@ -47,7 +47,8 @@ place_of forms l = position_or_len (same_form l) forms
 -- the node of a form's atom among these atoms; without unknowns it is true or false
 abbrev pub placed_form : List LinView → LinView → List Factor → Node
 placed_form forms l [] = if int_le l.constant (pos 0) then node.And [] else node.Or []
-placed_form forms l (f ∷ fs) = if int_lt f.1 (pos 0) then node.Not (node.At (place_of forms (canonical l))) else node.At (place_of forms (canonical l))
+placed_form forms l (f ∷ fs) =
+    if int_lt f.1 (pos 0) then node.Not (node.At (place_of forms (canonical l))) else node.At (place_of forms (canonical l))
 
 abbrev pub layer_placed : List LinView → Raw-F Node → Node
 layer_placed forms (layer.Le l) = placed_form forms l l.factors

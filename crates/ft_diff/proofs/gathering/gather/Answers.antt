@@ -1,4 +1,4 @@
-use Rattle.std.proofs.Common.{rules, ◌≡◌, ◌∙◌, sym, ap, ◌++◌, List, slice_get, Some, refl, true, false, arith}
+use Rattle.std.proofs.Common.{◌≡◌, ◌∙◌, sym, ap, ◌++◌, List, slice_get, Some, refl, true, false, arith}
 use Rattle.std.proofs.lemmas.Option.{slice_get_read}
 use Rattle.ft_linear.specs.meaning.Form.{LinView}
 use Rattle.ft_diff.specs.declared.diff.Diff.{Diff}

@@ -1,7 +1,7 @@
-use Rattle.std.proofs.Common.{rules, ◌≡◌, ◌∙◌, sym, ap, subst, All, List, ℤ, length}
+use Rattle.std.proofs.Common.{sym, subst, All, List, ℤ, length}
 use Rattle.ft_linear.specs.meaning.Form.{InArea, values_at}
 use Rattle.ft_diff.specs.declared.diff.Diff.{Diff}
-use Rattle.ft_diff.specs.meaning.Differences.{Meets, IsSolution}
+use Rattle.ft_diff.specs.meaning.Differences.{Meets}
 use Rattle.ft_diff.proofs.LineLemmas.{lines-met, met-solves}
 use Rattle.ft_diff.proofs.gathering.has_solution.Goals as goal
 
