@@ -11,11 +11,11 @@ use Rattle.std.proofs.lemmas.List.Elements.{All-nil, All-cons, All-head, All-tai
 use Rattle.std.proofs.lemmas.Option.{slice_get-get_or}
 use Rattle.ft_linear.specs.declared.lines.Line.{Line}
 use Rattle.ft_linear.specs.declared.lines.Line.TheVariants.{Atom, Upper, Lower}
-use Rattle.ft_linear.specs.laws.Sums.{SinglesTighten, single_span}
+use Rattle.ft_linear.specs.laws.Sums.{SinglesTighten}
 use Rattle.ft_linear.specs.meaning.Bounds.{times_most, value_most}
 use Rattle.ft_linear.specs.meaning.Form.{AreRising, Factor, HasUnknowns, IsSmall, LinView, high_end, least, low_end, most, span_at}
 use Rattle.ft_linear.specs.meaning.Formula.{FormulaView}
-use Rattle.ft_linear.specs.meaning.Halving.{cancelling, is_other, single_lines}
+use Rattle.ft_linear.specs.meaning.Halving.{cancelling, is_other, single_lines, single_span}
 use Rattle.ft_linear.specs.meaning.Part.{PartView}
 use Rattle.ft_linear.specs.meaning.Rules.{Tightens, are_lines, constant_in, factor_of, factors_in, is_line, is_multiplier, line_form, literal_form, lower_form, narrowed, times_of, total_constant, total_factor, upper_form}
 use Rattle.ft_linear.proofs.RuleLemmas.{none-below}

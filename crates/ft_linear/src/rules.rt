@@ -12,7 +12,7 @@ ghost use Rattle.ft_linear.specs.meaning.Bounds.{line_most, line_product_most, l
 ghost use Rattle.ft_linear.specs.meaning.Form.{HasUnknowns, InArea, least, span_at};
 ghost use Rattle.ft_linear.specs.meaning.Marks.{AreFor, AreJudged};
 ghost use Rattle.ft_linear.specs.meaning.Rules.{Contradicts, HoldsForced, Tightens, are_lines, factors_in, is_line, line_form, literal_form, narrowed, down_to, up_to, total_constant, total_factor};
-ghost use Rattle.ft_linear.specs.laws.Sums.{single_span};
+ghost use Rattle.ft_linear.specs.meaning.Halving.{single_span};
 ghost use Rattle.ft_linear.specs.summing.Cancelling.{is_kept, is_cancelled, are_cancelled};
 
 use crate::formula::Formula;

@@ -1,12 +1,12 @@
 -- Laws from sums of lines to the points of a part.
-use Rattle.std.specs.Prelude.{◌≡◌, ◌≤◌, ◌<◌, ◌↔◌, ℕ, ℤ, ◌+ℤ◌, ◌-ℤ◌, Bool, true, List, length, Option, Some, slice_get}
+use Rattle.std.specs.Prelude.{◌≡◌, ◌≤◌, ◌<◌, ◌↔◌, ℕ, ℤ, Bool, true, List, length, Some, slice_get}
 use Rattle.ft_base.specs.Interval.{IsWithin}
 use Rattle.ft_linear.specs.declared.lines.Line.{Line}
-use Rattle.ft_linear.specs.meaning.Form.{HasUnknowns, InArea, IsProper, LinView, least, low_end, span_at}
+use Rattle.ft_linear.specs.meaning.Form.{HasUnknowns, InArea, IsProper, LinView}
 use Rattle.ft_linear.specs.meaning.Formula.{FormulaView}
 use Rattle.ft_linear.specs.meaning.Part.{PartView, forced}
-use Rattle.ft_linear.specs.meaning.Halving.{single_lines}
-use Rattle.ft_linear.specs.meaning.Rules.{Contradicts, HoldsForced, Tightens, factor_of, literal_form, narrowed}
+use Rattle.ft_linear.specs.meaning.Halving.{single_lines, single_span}
+use Rattle.ft_linear.specs.meaning.Rules.{Contradicts, HoldsForced, Tightens, literal_form}
 
 -- where lines contradict, no point of the area makes each forced literal true
 abbrev pub NoneWhereContradicted : Type 0
@@ -17,11 +17,6 @@ NoneWhereContradicted =
 abbrev pub AllWithinTightened : Type 0
 AllWithinTightened = (f : FormulaView) (p : PartView) (x : ℕ → ℤ) (u : ℕ) (lines : List Line) (span : ℤ × ℤ) → Tightens f p u lines span
     → InArea p.spans x → HoldsForced f p x → IsWithin span (x u)
-
--- what the form m of a single literal leaves an unknown with the low ends of its other unknowns: one pass over the form makes their sum
-abbrev pub single_span : List (ℤ × ℤ) → ℕ → LinView → Option (ℤ × ℤ)
-single_span spans u m =
-    narrowed (factor_of u m.factors) (m.constant +ℤ (least spans m.factors -ℤ low_end (factor_of u m.factors) (span_at spans u))) (span_at spans u)
 
 -- a forced literal of at most three unknowns, with the bounds that cancel the others, leaves an unknown that span and no other
 abbrev pub SinglesTighten : Type 0
