@@ -8,7 +8,8 @@ ghost use Rattle.std.specs.Prelude.{◌≡◌, ◌≤◌, ◌<◌, ◌+◌, ◌*
 ghost use Rattle.std.specs.List.{list_all};
 ghost use Rattle.ft_base.specs.Interval.{IsWithin};
 ghost use Rattle.ft_base.specs.Division.{floor_of};
-ghost use Rattle.ft_linear.specs.meaning.Bounds.{line_most, line_product_most, line_sum_most, product_most, sum_most, times_most};
+ghost use Rattle.ft_linear.specs.meaning.Bounds.{times_most};
+ghost use Rattle.ft_linear.specs.summing.Sizes.{line_most, line_product_most, line_sum_most, product_most, sum_most};
 ghost use Rattle.ft_linear.specs.meaning.Form.{HasUnknowns, InArea, least, span_at};
 ghost use Rattle.ft_linear.specs.meaning.Marks.{AreFor, AreJudged};
 ghost use Rattle.ft_linear.specs.meaning.Rules.{Contradicts, HoldsForced, Tightens, are_lines, factors_in, is_line, line_form, literal_form, narrowed, down_to, up_to, total_constant, total_factor};

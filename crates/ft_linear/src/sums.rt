@@ -2,7 +2,7 @@
 // 10,000 factors is far inside an i128.
 
 ghost use Rattle.std.specs.Prelude.{◌≡◌, ◌≤◌, ◌<◌, ◌+◌, ◌*◌, ◌+ℤ◌, ◌*ℤ◌, length, unsigned_abs, All};
-ghost use Rattle.ft_linear.specs.meaning.Bounds.{product_most, sum_most};
+ghost use Rattle.ft_linear.specs.summing.Sizes.{product_most, sum_most};
 ghost use Rattle.ft_linear.specs.meaning.Form.{IsSmall, AreRising, HasUnknowns, values_at, sum_at, most, least, high_end, low_end};
 
 use ft_base::Span;
