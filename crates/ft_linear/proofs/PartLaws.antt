@@ -17,10 +17,8 @@ use Rattle.ft_linear.specs.meaning.Forced.{value_of}
 use Rattle.ft_base.specs.Three.{is_yes, is_no}
 use Rattle.ft_linear.specs.meaning.Part.{PartView, agrees, is_against, is_forced_both, fixed_form, fixed, decision, value_by, atom_value, is_decision, forced, against, atoms_of, truth_of, PointOf}
 use Rattle.ft_linear.proofs.ForcedLaws.{Agrees, SoundAtoms, no-false, yes-true, value_agrees, forced_so, same-bools}
+use Rattle.ft_linear.proofs.Basics.{not-under}
 use Rattle.ft_linear.proofs.Whole.{times-up, times-down}
-
-not-under : (k : ℕ) → int_lt (pos k) (pos 0) ≡ false
-not-under k = grind (arith, ints)
 
 high-most : (f x : ℤ) (s : ℤ × ℤ) → IsWithin s x → (f *ℤ x) ≤ℤ high_end f s
 high-most (pos k) x s within = subst (λ (t : Bool). (pos k *ℤ x) ≤ℤ (pos k *ℤ cond t s.0 s.1)) (sym (not-under k)) (times-up k x s.1 within.1)

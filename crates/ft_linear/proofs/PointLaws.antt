@@ -1,9 +1,7 @@
 -- From the truth, the forced literals and the sums of a part to its points.
-use Rattle.std.proofs.Common.{◌≡◌, ◌∙◌, inl, inr, sym, ap, refl, ℕ, zero, suc, ◌+◌, ◌<◌, ◌≤◌, ℤ, pos, ◌≤ℤ◌, Bool, true, false, not, ◌||◌, cond, length, arith}
-use Rattle.std.specs.Prelude.{int_le}
+use Rattle.std.proofs.Common.{◌≡◌, ◌∙◌, inl, inr, sym, ap, refl, ℕ, zero, suc, ◌+◌, ◌<◌, ◌≤◌, Bool, true, false, not, ◌||◌, cond, length, arith}
 use Rattle.std.specs.List.{list_any, range_with_len}
 use Rattle.std.proofs.lemmas.Bool.{cases_Bool, cases_eq, and_from}
-use Rattle.std.proofs.lemmas.Int.{ints}
 use Rattle.ft_base.specs.declared.three.Three.{Three}
 use Rattle.ft_base.specs.declared.three.Three.TheVariants.{No}
 use Rattle.ft_base.specs.Three.{is_no}
@@ -12,6 +10,7 @@ use Rattle.ft_linear.specs.meaning.Formula.{form_truth}
 use Rattle.ft_linear.specs.meaning.Part.{atom_value, atoms_of, forced, is_against, is_forced_both}
 use Rattle.ft_linear.specs.laws.Parts.{AllWhereYes, DifferencesAreMet, ForcedHold, NoWhereBothWays, NoneWhereNo}
 use Rattle.ft_linear.specs.laws.Sums.{AllWithinTightened, NoneWhereContradicted}
+use Rattle.ft_linear.proofs.Basics.{at-most-zero}
 use Rattle.ft_linear.proofs.FormLaws.{literals-hold}
 use Rattle.ft_linear.proofs.PartLaws.{forced-point, in-span, no-point, yes-point}
 use Rattle.ft_linear.proofs.RuleLemmas.{none-holds, within-tightened}
@@ -28,9 +27,6 @@ forced-hold f p x over point sat a s is = forced-point f p x over point a s sat 
 so-same : (s b : Bool) → b ≡ s → same_bool s b ≡ true
 so-same true b e = e
 so-same false b e = ap not e
-
-at-most-zero : (z : ℤ) → int_le z (pos 0) ≡ true → z ≤ℤ pos 0
-at-most-zero z e = grind (arith, ints, e)
 
 pub differences-met : DifferencesAreMet
 differences-met f p x over point sat = record {

@@ -20,7 +20,7 @@ use Rattle.ft_linear.specs.meaning.Rules.{Contradicts, HoldsForced, Tightens, is
 use Rattle.ft_linear.specs.summing.Cancelling.{is_kept, is_cancelled, are_cancelled}
 use Rattle.ft_linear.proofs.Whole.{times-up, mul-add, neg-mul, mul-neg, under-floor}
 use Rattle.ft_linear.proofs.UnknownLemmas.{cancels, alone, sum-append, sum-scaled, times-none, equal-to-itself, not-equal, factor_of-append, factor_of-scaled, factor_of-negated, sum-negated}
-use Rattle.ft_linear.proofs.Basics.{is-zero}
+use Rattle.ft_linear.proofs.Basics.{at-most-zero, is-zero}
 
 -- an unknown below those of a form has the factor 0, and the first factor of an unknown is its only one
 pub none-below : (from u : ℕ) (fs : List Factor) → AreRising from fs → u < from → factor_of u fs ≡ pos 0
@@ -155,9 +155,6 @@ module _ (f : FormulaView) (p : PartView) where
     literal-holds : (value : Bool) (o : Option LinView) → form_truth x o ≡ value → (sum_at x (factors_in (option_map (literal_form value) o)) +ℤ constant_in (option_map (literal_form value) o)) ≤ℤ pos 0
     literal-holds value None e = omega (arith, ints)
     literal-holds true (Some l) e = at-most-zero (form_at x l) e
-      where
-        at-most-zero : (z : ℤ) → int_le z (pos 0) ≡ true → z ≤ℤ pos 0
-        at-most-zero z e = grind (arith, ints)
     literal-holds false (Some l) e = let t = sum-negated x l.factors in let a = above-zero (form_at x l) e in omega (arith, ints, t, a)
       where
         above-zero : (z : ℤ) → int_le z (pos 0) ≡ false → pos 0 <ℤ z

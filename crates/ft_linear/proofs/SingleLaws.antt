@@ -18,6 +18,7 @@ use Rattle.ft_linear.specs.meaning.Formula.{FormulaView}
 use Rattle.ft_linear.specs.meaning.Halving.{cancelling, is_other, single_lines, single_span}
 use Rattle.ft_linear.specs.meaning.Part.{PartView}
 use Rattle.ft_linear.specs.meaning.Rules.{Tightens, are_lines, constant_in, factor_of, factors_in, is_line, is_multiplier, line_form, literal_form, lower_form, narrowed, times_of, total_constant, total_factor, upper_form}
+use Rattle.ft_linear.proofs.Basics.{not-under}
 use Rattle.ft_linear.proofs.RuleLemmas.{none-below}
 use Rattle.ft_linear.proofs.UnknownLemmas.{factor_of-negated, negated_factors, not-equal}
 use Rattle.ft_linear.proofs.Whole.{mul-neg, neg-mul}
@@ -27,9 +28,6 @@ above n = grind (arith, ints)
 
 not-above : (n : ℕ) → int_lt (pos 0) (negsuc n) ≡ false
 not-above n = grind (arith, ints)
-
-not-under : (n : ℕ) → int_lt (pos n) (pos 0) ≡ false
-not-under n = grind (arith, ints)
 
 lower-is : (w n : ℕ) → cancelling (w, pos (suc n)) ≡ Lower w (suc n)
 lower-is w n = ap (λ (b : Bool). cond b (Lower w (suc n)) (Upper w (suc n))) (above n)
