@@ -3,7 +3,7 @@ use Rattle.std.proofs.Common.{arith, ◌≡◌, ap, ℕ, ℤ, pos, ◌+ℤ◌, �
 use Rattle.std.proofs.lemmas.Int.{ints}
 use Rattle.std.proofs.lemmas.List.Elements.{All-contains}
 use Rattle.ft_diff.specs.declared.diff.Diff.{Diff}
-use Rattle.ft_diff.specs.Differences.{Meets, number_at}
+use Rattle.ft_diff.specs.meaning.Differences.{Meets, number_at}
 
 -- one more line on the way
 pub further : (list : List Diff) (start u v : ℕ) (total now : ℤ) (d : Diff) → ((x : ℕ → ℤ) → All (Meets x) list → x start ≤ℤ (x u +ℤ total)) → Contains list d

@@ -1,2 +1,3 @@
 pub mod NarrowingLemmas
 pub mod CycleLemmas
+pub mod LineLemmas

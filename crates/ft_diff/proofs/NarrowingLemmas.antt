@@ -9,12 +9,12 @@ use Rattle.std.proofs.lemmas.List.Elements.{All-more, All-take}
 use Rattle.std.proofs.lemmas.List.Sums.{sum_by-set}
 use Rattle.std.proofs.lemmas.Option.{get_or_from_slice_get, slice_get-get_or, slice_get_within}
 use Rattle.ft_base.specs.Interval.{IsWithin}
-use Rattle.ft_linear.specs.Form.{InArea, span_at, values_at}
+use Rattle.ft_linear.specs.meaning.Form.{InArea, span_at, values_at}
 use Rattle.ft_diff.specs.declared.diff.Diff.{Diff}
 use Rattle.ft_diff.specs.declared.narrowing.Step.{Step}
 use Rattle.ft_diff.specs.declared.narrowing.Step.TheVariants.{Met, Lowered, Barred}
-use Rattle.ft_diff.specs.Differences.{IsOver, HasUnknown, Meets, number_at}
-use Rattle.ft_diff.specs.Narrowing.{HasOutcome, Narrows, highs, room_below, after, is_barred}
+use Rattle.ft_diff.specs.meaning.Differences.{IsOver, HasUnknown, Meets, number_at}
+use Rattle.ft_diff.specs.narrowing.Outcome.{HasOutcome, Narrows, highs, room_below, combined, is_barred}
 
 -- by number instead of by look-up
 pub of-area : (spans : List (ℤ × ℤ)) (x : ℕ → ℤ) (u : ℕ) → InArea spans x → u < length spans → IsWithin (span_at spans u) (x u)
@@ -113,9 +113,9 @@ module _ (spans : List (ℤ × ℤ)) (d : Diff) (b : ℤ) (over : IsOver (length
       let at : number_at x d.x ≡ pos 0 = ap (number_at x) named in
       absurd (omega (arith, ints, met, y, at, is, less))
 
--- one search after another
+-- one search combined another
 pub joined : (P Q R : (ℕ → ℤ) → Type 0) (old mid now : List (ℤ × ℤ)) (step one : Step) → ((x : ℕ → ℤ) → R x → P x) → ((x : ℕ → ℤ) → R x → Q x) → ((x : ℕ → ℤ) → P x → Q x → R x)
-    → is_barred step ≡ false → HasOutcome P old mid step → HasOutcome Q mid now one → HasOutcome R old now (after step one)
+    → is_barred step ≡ false → HasOutcome P old mid step → HasOutcome Q mid now one → HasOutcome R old now (combined step one)
 joined P Q R old mid now Met Met p q both going o n = (n.0 ∙ o.0, both (highs old) o.1 (subst (λ (l : List (ℤ × ℤ)). Q (highs l)) o.0 n.1))
 joined P Q R old mid now Met (Lowered u) p q both going o n =
     subst (λ (l : List (ℤ × ℤ)). Narrows R l now) o.0 (weaker Q R mid now (Lowered u) (λ x r area. q x r) (both (highs mid) (subst (λ (l : List (ℤ × ℤ)). P (highs l)) (sym o.0) o.1)) n)
@@ -137,7 +137,7 @@ fewer list i x within all k d small =
 -- one more line
 pub one-more : (list : List Diff) (i : ℕ) (d : Diff) (old mid now : List (ℤ × ℤ)) (step one : Step) → i < length list → is_barred step ≡ false
     → HasOutcome (λ x. All (Meets x) (take i list)) old mid step → HasOutcome (λ x. Meets x (slice_index_or list i d)) mid now one
-    → HasOutcome (λ x. All (Meets x) (take (i + 1) list)) old now (after step one)
+    → HasOutcome (λ x. All (Meets x) (take (i + 1) list)) old now (combined step one)
 one-more list i d old mid now step one within going o n =
     let long = length-take-le (i + 1) list (omega (arith, within)) in
     joined (λ x. All (Meets x) (take i list)) (λ x. Meets x (slice_index_or list i d)) (λ x. All (Meets x) (take (i + 1) list)) old mid now step one

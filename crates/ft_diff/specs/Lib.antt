@@ -1,2 +1,3 @@
-pub mod Differences
-pub mod Narrowing
+pub mod gathering
+pub mod meaning
+pub mod narrowing

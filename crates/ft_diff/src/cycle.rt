@@ -7,7 +7,7 @@
 // one, so its sum is below 0. Hence there is at most one round more than there are unknowns that stand first in lines.
 
 ghost use Rattle.std.specs.Prelude.{◌≡◌, ◌≤◌, ◌+◌, ◌*◌, ◌+ℤ◌, ℕ, ℤ, unsigned_abs, All, Contains, IsTrue, IfSome, Some};
-ghost use Rattle.ft_diff.specs.Differences.{Meets, difference_most};
+ghost use Rattle.ft_diff.specs.meaning.Differences.{Meets, difference_most};
 
 use crate::diff::Diff;
 

@@ -3,10 +3,12 @@
 
 mod cycle;
 mod diff;
+mod gathering;
 mod narrowing;
 mod room;
 mod solving;
 
 pub use diff::Diff;
+pub use gathering::{has_solution, open_lines};
 pub use room::DiffRoom;
 pub use solving::differences;

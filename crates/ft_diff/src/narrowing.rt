@@ -2,10 +2,10 @@
 // one that falls below its least number leaves no solution.
 
 ghost use Rattle.std.specs.Prelude.{◌≡◌, ◌≤◌, ◌<◌, ◌+ℤ◌, ◌≤ℤ◌, ◌<ℤ◌, length, unsigned_abs, All, IfSome, IfNone};
-ghost use Rattle.ft_linear.specs.Bounds.{value_most};
-ghost use Rattle.ft_linear.specs.Form.{InArea};
-ghost use Rattle.ft_diff.specs.Differences.{IsOver, HasUnknown, Meets, number_at, difference_most};
-ghost use Rattle.ft_diff.specs.Narrowing.{HasOutcome, highs, after, is_barred};
+ghost use Rattle.ft_linear.specs.meaning.Bounds.{value_most};
+ghost use Rattle.ft_linear.specs.meaning.Form.{InArea};
+ghost use Rattle.ft_diff.specs.meaning.Differences.{IsOver, HasUnknown, Meets, number_at, difference_most};
+ghost use Rattle.ft_diff.specs.narrowing.Outcome.{HasOutcome, highs, combined, is_barred};
 
 use crate::diff::Diff;
 use ft_base::Span;
@@ -52,7 +52,13 @@ fn cut(span: Span, bound: i64) -> Option<Span>
 }
 
 // An unknown is at most this bound, by the line at this place.
-fn lower(spans: &mut [Span], lowered_by: &mut [usize], unknown: u32, bound: i64, at: usize) -> Step
+fn tighten_upper_bound(
+    spans: &mut [Span],
+    lowered_by: &mut [usize],
+    unknown: u32,
+    bound: i64,
+    at: usize,
+) -> Step
     requires places { length lowered_by.old ≡ length spans.old }
     requires within { unknown < length spans.old }
     requires high { InArea spans.old (highs spans.old) }
@@ -83,15 +89,15 @@ fn narrow(spans: &mut [Span], lowered_by: &mut [usize], line: Diff, at: usize) -
 {
     let bound = reach(highest(spans, line.y), line.c);
     match line.x {
-        Some(unknown) => lower(spans, lowered_by, unknown, bound, at),
+        Some(unknown) => tighten_upper_bound(spans, lowered_by, unknown, bound, at),
         None if bound < 0 => Step::Barred,
         None => Step::Met,
     }
 }
 
-// What is known after one more line.
-fn after(step: Step, one: Step) -> Step
-    ensures { result ≡ after step one }
+// What some lines did, together with one more.
+fn combined(step: Step, one: Step) -> Step
+    ensures { result ≡ combined step one }
 {
     match one {
         Step::Met => step,
@@ -119,7 +125,7 @@ pub fn round(list: &[Diff], spans: &mut [Span], lowered_by: &mut [usize]) -> Ste
     let mut step = Step::Met;
     'lines: for (at, line) in list.iter().enumerate() {
         let one = narrow(spans, lowered_by, *line, at);
-        step = after(step, one);
+        step = combined(step, one);
         if is_barred(step) {
             return Step::Barred;
         }

@@ -1,9 +1,9 @@
 ghost use Rattle.std.specs.Prelude.{◌≡◌, ◌≤◌, ◌<◌, ℕ, ℤ, length, All, slice_set, IsTrue, IsFalse};
 ghost use Rattle.ft_base.specs.Interval.{IsBounded};
-ghost use Rattle.ft_linear.specs.Bounds.{value_most};
-ghost use Rattle.ft_linear.specs.Form.{InArea, values_at};
-ghost use Rattle.ft_diff.specs.Differences.{IsOver, IsSolution, IsUnder, HasUnknown};
-ghost use Rattle.ft_diff.specs.Narrowing.{highs};
+ghost use Rattle.ft_linear.specs.meaning.Bounds.{value_most};
+ghost use Rattle.ft_linear.specs.meaning.Form.{InArea, values_at};
+ghost use Rattle.ft_diff.specs.meaning.Differences.{IsOver, IsSolution, IsUnder, HasUnknown};
+ghost use Rattle.ft_diff.specs.narrowing.Outcome.{highs};
 
 use crate::cycle::{far_back, is_negative_cycle};
 use crate::diff::Diff;

@@ -2,17 +2,17 @@
 use Rattle.std.proofs.Common.{◌≡◌, ◌∙◌, inl, inr, sym, ap, refl, ℕ, suc, ◌+◌, Bool, true, false, not, cond, List, [], ◌∷◌, ◌&&◌, map, arith}
 use Rattle.std.specs.Prelude.{nat_eq, count_by}
 use Rattle.std.specs.List.{list_all, list_any}
-use Rattle.std.proofs.lemmas.Bool.{cases_Bool}
+use Rattle.std.proofs.lemmas.Bool.{cases_Bool, and_parts, eqb-true}
 use Rattle.std.proofs.lemmas.List.Folds.{list_all-map}
 use Rattle.std.proofs.lemmas.List.Sums.{sum_by-cons}
 use Rattle.ft_linear.specs.declared.node.Node.{Node}
 use Rattle.ft_linear.specs.declared.node.Node.TheVariants.{And, Or}
 use Rattle.ft_base.specs.declared.three.Three.{Three}
 use Rattle.ft_base.specs.declared.three.Three.TheVariants.{No, Maybe, Yes}
-use Rattle.ft_linear.specs.Truth.{truth}
-use Rattle.ft_linear.specs.Forced.{Seen, seen, value_of, forces, and_forces, or_forces, by_each, by_only, same_bool}
+use Rattle.ft_linear.specs.meaning.Truth.{truth}
+use Rattle.ft_linear.specs.meaning.Forced.{Seen, seen, value_of, forces, and_forces, or_forces, by_each, by_only, same_bool}
 use Rattle.ft_base.specs.Three.{three_all, three_any, three_not, can_be, is_no, is_yes}
-use Rattle.ft_linear.proofs.NodeLemmas.{With, bare, Inductive, node_induction, list_any-map, map-map, truth-At, truth-Not, truth-And, truth-Or, value-At, value-Not, value-And, value-Or, forces-At, forces-Not, forces-And, forces-Or}
+use Rattle.ft_linear.specs.laws.Nodes.{With, bare, Inductive, node_induction, list_any-map, map-map, truth-At, truth-Not, truth-And, truth-Or, value-At, value-Not, value-And, value-Or, forces-At, forces-Not, forces-And, forces-Or}
 
 -- a value that is open says nothing
 abbrev pub Agrees : Three → Bool → Type 0
@@ -198,13 +198,6 @@ module _ (atoms : ℕ → Three) (at : ℕ → Bool) (sound : SoundAtoms atoms a
 pub value_agrees : (atoms : ℕ → Three) (at : ℕ → Bool) (node : Node) → SoundAtoms atoms at → Agrees (value_of atoms node) (truth at node)
 value_agrees atoms at node sound = node_induction (λ node. Agrees (value_of atoms node) (truth at node)) (valued atoms at sound) node
 
-pub eq-nat : (a b : ℕ) → nat_eq a b ≡ true → a ≡ b
-eq-nat a b e = grind arith
-
-pub both-true : (a b : Bool) → (a && b) ≡ true → (a ≡ true) × (b ≡ true)
-both-true true b e = (refl, e)
-both-true false b e = cc e
-
 module _ (atoms : ℕ → Three) (at : ℕ → Bool) (sound : SoundAtoms atoms at) where
   -- a node that is as wanted has its forced literals so
   abbrev Forced : Node → Type 0
@@ -212,14 +205,14 @@ module _ (atoms : ℕ → Three) (at : ℕ → Bool) (sound : SoundAtoms atoms a
 
   at-leaf : (a atom : ℕ) (want sign : Bool) → at a ≡ want → (nat_eq atom a && same_bool want sign) ≡ true → at atom ≡ sign
   at-leaf a atom want sign is e =
-      let (same, signs) = both-true (nat_eq atom a) (same_bool want sign) e in
-      ap at (eq-nat atom a same) ∙ is ∙ same-bools want sign signs
+      let (same, signs) = and_parts (nat_eq atom a) (same_bool want sign) e in
+      ap at (eqb-true atom a same) ∙ is ∙ same-bools want sign signs
 
-  turned : (b want : Bool) → not b ≡ want → b ≡ not want
-  turned true true e = cc e
-  turned true false e = refl
-  turned false true e = refl
-  turned false false e = cc e
+  other-way : (b want : Bool) → not b ≡ want → b ≡ not want
+  other-way true true e = cc e
+  other-way true false e = refl
+  other-way false true e = refl
+  other-way false false e = cc e
 
   guarded : (g b : Bool) → cond g b false ≡ true → (g ≡ true) × (b ≡ true)
   guarded true b e = (refl, e)
@@ -245,7 +238,7 @@ module _ (atoms : ℕ → Three) (at : ℕ → Bool) (sound : SoundAtoms atoms a
     only-part want so e =
         let (g, f) = guarded _ _ (ap (λ (ss : List Seen). by_only ss want atom sign) (sym same-parts) ∙ e) in
         let one : count_by (λ (x : With Forced). can_be want (sees x).0) parts ≡ 1 =
-        sym (count-map (λ (s : Seen). can_be want s.0) sees parts) ∙ eq-nat _ 1 g in
+        sym (count-map (λ (s : Seen). can_be want s.0) sees parts) ∙ eqb-true _ 1 g in
         let picked : list_any (λ (x : With Forced). can_be want (sees x).0 && (sees x).1 want atom sign) parts ≡ true =
         sym (list_any-map (λ (s : Seen). can_be want s.0 && s.1 want atom sign) sees parts) ∙ f in
         let (x, is, f) = only-one (λ (x : With Forced). can_be want (sees x).0) (λ (x : With Forced). same_bool want (truth at x.0)) (λ (x : With Forced). (sees x).1 want atom sign)
@@ -269,7 +262,7 @@ module _ (atoms : ℕ → Three) (at : ℕ → Bool) (sound : SoundAtoms atoms a
   forced-all : Inductive Forced
   forced-all = record {
     at = λ a want atom sign is e. at-leaf a atom want sign (sym (truth-At at a) ∙ is) (sym (forces-At atoms want atom sign a) ∙ e);
-    negated = λ inner h want atom sign is e. h (not want) atom sign (turned (truth at inner) want (sym (truth-Not at inner) ∙ is)) (sym (forces-Not atoms want atom sign inner) ∙ e);
+    negated = λ inner h want atom sign is e. h (not want) atom sign (other-way (truth at inner) want (sym (truth-Not at inner) ∙ is)) (sym (forces-Not atoms want atom sign inner) ∙ e);
     all = λ parts want atom sign is e. all-parts parts want atom sign is (sym (forces-And atoms want atom sign (bare parts)) ∙ e);
     any = λ parts want atom sign is e. any-parts parts want atom sign is (sym (forces-Or atoms want atom sign (bare parts)) ∙ e);
   }

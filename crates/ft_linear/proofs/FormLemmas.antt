@@ -4,7 +4,7 @@ use Rattle.std.specs.Prelude.{slice_index_or}
 use Rattle.std.proofs.lemmas.Int.{ints, to_z-of_z, fits_signed_from_abs}
 use mir.Val.{to_z, of_z}
 use Rattle.std.proofs.lemmas.List.{take_more}
-use Rattle.ft_linear.specs.Form.{Factor, IsSmall, AreRising, sum_at, most, least, high_end, low_end, span_at}
+use Rattle.ft_linear.specs.meaning.Form.{Factor, IsSmall, AreRising, sum_at, most, least, high_end, low_end, span_at}
 
 pub small-at : (from : ℕ) (fs : List Factor) (i : ℕ) (d : Factor) → AreRising from fs → i < length fs → IsSmall (slice_index_or fs i d).1
 small-at from [] i d h below = absurd (omega (arith, below))

@@ -1,14 +1,14 @@
 mod Basics
-pub mod NodeLemmas
 pub mod FormLemmas
+pub mod FormLaws
 pub mod ForcedLaws
 pub mod SlotLemmas
-pub mod LowerLemmas
+pub mod ForcingLemmas
 pub mod Whole
 pub mod PartLaws
+pub mod OnePointLemmas
+pub mod PointLaws
+pub mod SingleLaws
 pub mod MarksLemmas
 pub mod UnknownLemmas
 pub mod RuleLemmas
-pub mod CanonicalLemmas
-pub mod RawLemmas
-pub mod SettleLemmas

@@ -12,15 +12,16 @@ use Rattle.ft_base.specs.declared.three.Three.{Three}
 use Rattle.ft_base.specs.declared.three.Three.TheVariants.{Maybe}
 use Rattle.ft_linear.specs.declared.node.Node.{Node}
 use Rattle.ft_linear.specs.declared.forcing.Signs.{Signs}
-use Rattle.ft_linear.specs.Formula.{FormulaView}
-use Rattle.ft_linear.specs.Forced.{forces}
-use Rattle.ft_linear.specs.Part.{PartView, decision, fixed, fixed_form, value_by, atom_value, is_forced_both, atoms_of}
-use Rattle.ft_linear.specs.Slots.{value_at, slots_of, Adds, with_more}
-use Rattle.ft_linear.specs.Form.{LinView}
-use Rattle.ft_linear.specs.Marks.{size_of, signs_of, decided_at}
-use Rattle.ft_linear.proofs.NodeLemmas.{With, bare, node_induction, list_any-map, size-At, size-Not, size-And, size-Or}
+use Rattle.ft_linear.specs.meaning.Formula.{FormulaView}
+use Rattle.ft_linear.specs.meaning.Forced.{forces}
+use Rattle.ft_linear.specs.meaning.Part.{PartView, decision, fixed, fixed_form, value_by, atom_value, is_forced_both, atoms_of}
+use Rattle.ft_linear.specs.judging.Slots.{value_at, slots_of, Adds, with_more}
+use Rattle.ft_linear.specs.meaning.Form.{LinView}
+use Rattle.ft_linear.specs.meaning.Marks.{size_of, signs_of}
+use Rattle.ft_linear.specs.judging.Weighing.{decided_at}
+use Rattle.ft_linear.specs.laws.Nodes.{With, bare, node_induction, list_any-map, size-At, size-Not, size-And, size-Or}
 use Rattle.ft_linear.proofs.SlotLemmas.{slots-At, slots-Not, slots-And, slots-Or}
-use Rattle.ft_linear.proofs.Basics.{or-none, or-assoc}
+use Rattle.std.proofs.Math.Bool.{or-false, or_assoc}
 
 pub OnOk_then : {T E : Type 0} (r : Result T E) {P Q : Type 0} → OnOk r P → (P → Q) → OnOk r Q
 OnOk_then (Ok v) h k = k h
@@ -72,8 +73,8 @@ and-assoc true b c = refl
 and-assoc false b c = refl
 
 any-from : (q : ℕ → Bool) (from n : ℕ) → list_any q (range_with_len from (suc n)) ≡ (list_any q (range_with_len from n) || q (from + n))
-any-from q from zero = or-none (q from) ∙ ap q (omega arith)
-any-from q from (suc n) = ap (λ b. q from || b) (any-from q (from + 1) n ∙ ap (λ k. list_any q (range_with_len (from + 1) n) || q k) (omega arith)) ∙ sym (or-assoc (q from) (list_any q (range_with_len (from + 1) n)) (q (from + suc n)))
+any-from q from zero = or-false (q from) ∙ ap q (omega arith)
+any-from q from (suc n) = ap (λ b. q from || b) (any-from q (from + 1) n ∙ ap (λ k. list_any q (range_with_len (from + 1) n) || q k) (omega arith)) ∙ sym (or_assoc (q from) (list_any q (range_with_len (from + 1) n)) (q (from + suc n)))
 
 all-from : (q : ℕ → Bool) (from n : ℕ) → list_all q (range_with_len from (suc n)) ≡ (list_all q (range_with_len from n) && q (from + n))
 all-from q from zero = and-all (q from) ∙ ap q (omega arith)

@@ -3,24 +3,22 @@ use Rattle.std.proofs.Common.{◌≤◌, ◌+◌, suc, zero, ◌≡◌, ◌∙�
 use Rattle.std.specs.Prelude.{int_lt, int_le, unwrap_or}
 use Rattle.std.specs.List.{list_any, list_all, range_with_len}
 use Rattle.std.specs.Prelude.{nat_lt}
-use Rattle.std.proofs.lemmas.Bool.{cases_Bool, cases_eq}
+use Rattle.std.proofs.lemmas.Bool.{cases_Bool, cases_eq, and_parts}
 use Rattle.std.proofs.lemmas.Int.{ints}
 use Rattle.std.proofs.lemmas.Option.{slice_get-get_or, slice_get_past, get_or_from_slice_get, slice_get_within}
 use Rattle.std.proofs.lemmas.List.Elements.{All-head, All-tail}
 use Rattle.ft_base.specs.Interval.{IsWithin}
 use Rattle.ft_base.specs.declared.three.Three.{Three}
 use Rattle.ft_base.specs.declared.three.Three.TheVariants.{No, Maybe, Yes}
-use Rattle.ft_linear.specs.Form.{LinView, Factor, sum_at, InArea, span_at, HasUnknowns, most, least, high_end, low_end}
-use Rattle.ft_linear.specs.Formula.{FormulaView, atom_at, form_truth, Satisfies, IsOver}
-use Rattle.ft_linear.specs.Truth.{truth}
-use Rattle.ft_linear.specs.Forced.{value_of}
+use Rattle.ft_linear.specs.meaning.Form.{LinView, Factor, sum_at, InArea, span_at, HasUnknowns, most, least, high_end, low_end}
+use Rattle.ft_linear.specs.meaning.Formula.{FormulaView, atom_at, form_truth, Satisfies, IsOver}
+use Rattle.ft_linear.specs.meaning.Truth.{truth}
+use Rattle.ft_linear.specs.meaning.Forced.{value_of}
 use Rattle.ft_base.specs.Three.{is_yes, is_no}
-use Rattle.ft_linear.specs.Part.{PartView, agrees, is_against, is_forced_both, fixed_form, fixed, decision, value_by, atom_value, is_decision, forced, against, atoms_of, truth_of, PointOf}
-use Rattle.ft_linear.proofs.ForcedLaws.{Agrees, SoundAtoms, no-false, yes-true, value_agrees, forced_so, same-bools, both-true}
+use Rattle.ft_linear.specs.meaning.Part.{PartView, agrees, is_against, is_forced_both, fixed_form, fixed, decision, value_by, atom_value, is_decision, forced, against, atoms_of, truth_of, PointOf}
+use Rattle.ft_linear.proofs.ForcedLaws.{Agrees, SoundAtoms, no-false, yes-true, value_agrees, forced_so, same-bools}
+use Rattle.ft_linear.proofs.Basics.{not-under}
 use Rattle.ft_linear.proofs.Whole.{times-up, times-down}
-
-not-under : (k : ℕ) → int_lt (pos k) (pos 0) ≡ false
-not-under k = grind (arith, ints)
 
 high-most : (f x : ℤ) (s : ℤ × ℤ) → IsWithin s x → (f *ℤ x) ≤ℤ high_end f s
 high-most (pos k) x s within = subst (λ (t : Bool). (pos k *ℤ x) ≤ℤ (pos k *ℤ cond t s.0 s.1)) (sym (not-under k)) (times-up k x s.1 within.1)
@@ -106,7 +104,7 @@ module _ (f : FormulaView) (p : PartView) (x : ℕ → ℤ) (over : IsOver (leng
   no-against a bad = never-against (decision p a) (fixed f p a) (atom_at f.atoms x a) (fixed-sound a) (point.1 a) bad
 
   no-both : Satisfies f x → (a : ℕ) → is_forced_both f p a ≡ true → ⊥
-  no-both sat a bad = let (t, n) = both-true (forced f p a true) (forced f p a false) bad in cc (sym (forced-point a true sat t) ∙ forced-point a false sat n)
+  no-both sat a bad = let (t, n) = and_parts (forced f p a true) (forced f p a false) bad in cc (sym (forced-point a true sat t) ∙ forced-point a false sat n)
 
   by-answer : (a b d c : Bool) → cond (a || b || d) No (cond c Yes Maybe) ≡ No → (a ≡ true) ⊎ ((b ≡ true) ⊎ (d ≡ true))
   by-answer true b d c e = inl refl
@@ -163,7 +161,7 @@ past-none f p a same past = ap (λ (o : Option (Option Bool)). agrees (unwrap_or
 
 pub yes-point : (f : FormulaView) (p : PartView) (x : ℕ → ℤ) → IsOver (length p.spans) f → length p.decided ≡ length f.atoms → InArea p.spans x → truth_of f p ≡ Yes → Satisfies f x
 yes-point f p x over same area e =
-    let (root, all) = both-true (is_yes (value_of (atom_value f p) f.root)) (list_all (λ a. agrees (decision p a) (fixed f p a)) (atoms_of f)) (yes-answer f p x over area (is_no (value_of (atom_value f p) f.root)) (list_any (is_against f p) (atoms_of f)) (list_any (is_forced_both f p) (atoms_of f)) _ e) in
+    let (root, all) = and_parts (is_yes (value_of (atom_value f p) f.root)) (list_all (λ a. agrees (decision p a) (fixed f p a)) (atoms_of f)) (yes-answer f p x over area (is_no (value_of (atom_value f p) f.root)) (list_any (is_against f p) (atoms_of f)) (list_any (is_forced_both f p) (atoms_of f)) _ e) in
     satisfied f p x over area (λ a. elim (cases_Bool (nat_lt a (length f.atoms))) [
       | inl below ↦ all-range (λ a. agrees (decision p a) (fixed f p a)) 0 (length f.atoms) all a (omega arith) (grind (arith, below))
       | inr above ↦ past-none f p a same (grind (arith, above))

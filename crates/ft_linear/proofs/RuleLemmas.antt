@@ -4,7 +4,7 @@ use Rattle.std.specs.Prelude.{nat_eq, int_lt, int_le, nat_lt, slice_index_or, is
 use Rattle.std.specs.Ordering.{int_eq}
 use Rattle.std.specs.List.{list_all}
 use Rattle.std.specs.Option.{option_map}
-use Rattle.std.proofs.lemmas.Bool.{cases_Bool}
+use Rattle.std.proofs.lemmas.Bool.{cases_Bool, and_parts, eqb-true}
 use Rattle.std.proofs.lemmas.Int.{ints}
 use Rattle.std.proofs.lemmas.List.{take_more}
 use Rattle.std.proofs.lemmas.List.Folds.{list_all-map}
@@ -13,18 +13,17 @@ use Rattle.ft_base.specs.Interval.{IsWithin}
 use Rattle.ft_base.specs.Division.{floor_of}
 use Rattle.ft_linear.specs.declared.lines.Line.{Line}
 use Rattle.ft_linear.specs.declared.lines.Line.TheVariants.{Atom, Upper, Lower}
-use Rattle.ft_linear.specs.Form.{Factor, LinView, AreRising, InArea, sum_at, form_at, span_at}
-use Rattle.ft_linear.specs.Formula.{FormulaView, form_truth}
-use Rattle.ft_linear.specs.Part.{PartView, forced}
-use Rattle.ft_linear.specs.Rules.{Contradicts, HoldsForced, Tightens, is_line, is_multiplier, line_form, literal_form, upper_form, lower_form, times_of, factor_of, factors_in, constant_in, total_factor, total_constant, narrowed, up_to, down_to}
-use Rattle.ft_linear.specs.Cancelling.{is_kept, is_cancelled, are_cancelled}
+use Rattle.ft_linear.specs.meaning.Form.{Factor, LinView, AreRising, InArea, sum_at, form_at, span_at, scaled}
+use Rattle.ft_linear.specs.meaning.Formula.{FormulaView, form_truth}
+use Rattle.ft_linear.specs.meaning.Part.{PartView, forced}
+use Rattle.ft_linear.specs.meaning.Rules.{Contradicts, HoldsForced, Tightens, is_line, is_multiplier, line_form, literal_form, upper_form, lower_form, times_of, factor_of, factors_in, constant_in, total_factor, total_constant, narrowed, up_to, down_to}
+use Rattle.ft_linear.specs.summing.Cancelling.{is_kept, is_cancelled, are_cancelled}
 use Rattle.ft_linear.proofs.Whole.{times-up, mul-add, neg-mul, mul-neg, under-floor}
-use Rattle.ft_linear.proofs.ForcedLaws.{both-true, eq-nat}
-use Rattle.ft_linear.proofs.UnknownLemmas.{scaled, cancels, alone, sum-append, sum-scaled, times-none, equal-to-itself, not-equal, factor_of-append, factor_of-scaled, factor_of-turned, sum-turned}
-use Rattle.ft_linear.proofs.Basics.{is-zero}
+use Rattle.ft_linear.proofs.UnknownLemmas.{cancels, alone, sum-append, sum-scaled, times-none, equal-to-itself, not-equal, factor_of-append, factor_of-scaled, factor_of-negated, sum-negated}
+use Rattle.ft_linear.proofs.Basics.{at-most-zero, is-zero}
 
 -- an unknown below those of a form has the factor 0, and the first factor of an unknown is its only one
-none-below : (from u : ℕ) (fs : List Factor) → AreRising from fs → u < from → factor_of u fs ≡ pos 0
+pub none-below : (from u : ℕ) (fs : List Factor) → AreRising from fs → u < from → factor_of u fs ≡ pos 0
 none-below from u [] h below = refl
 none-below from u (f ∷ fs) h below =
     let other = not-equal f.0 u (λ same. omega (arith, same, h.0, below)) in
@@ -98,9 +97,9 @@ module _ (f : FormulaView) (p : PartView) where
     in-factors : (v : ℕ) (fs : List Factor) → list_all (λ (g : Factor). q g.0) fs ≡ true → (q v ≡ true) ⊎ (factor_of v fs ≡ pos 0)
     in-factors v [] e = inr refl
     in-factors v (g ∷ fs) e =
-        let (here, rest) = both-true (q g.0) (list_all (λ (g : Factor). q g.0) fs) e in
+        let (here, rest) = and_parts (q g.0) (list_all (λ (g : Factor). q g.0) fs) e in
         elim (cases_Bool (nat_eq g.0 v)) [
-          | inl same ↦ inl (ap q (sym (eq-nat g.0 v same)) ∙ here)
+          | inl same ↦ inl (ap q (sym (eqb-true g.0 v same)) ∙ here)
           | inr other ↦ elim (in-factors v fs rest) [
             | inl so ↦ inl so
             | inr none ↦ inr (ap (λ (b : Bool). cond b g.1 (pos 0) +ℤ factor_of v fs) other ∙ ap (λ (z : ℤ). pos 0 +ℤ z) none)
@@ -110,7 +109,7 @@ module _ (f : FormulaView) (p : PartView) where
     in-lines : (v : ℕ) (ls : List Line) → list_all (λ l. list_all (λ (g : Factor). q g.0) (factors_in (line_form f p l))) ls ≡ true → (q v ≡ true) ⊎ (total_factor f p v ls ≡ pos 0)
     in-lines v [] e = inr refl
     in-lines v (l ∷ ls) e =
-        let (here, rest) = both-true (list_all (λ (g : Factor). q g.0) (factors_in (line_form f p l))) (list_all (λ l. list_all (λ (g : Factor). q g.0) (factors_in (line_form f p l))) ls) e in
+        let (here, rest) = and_parts (list_all (λ (g : Factor). q g.0) (factors_in (line_form f p l))) (list_all (λ l. list_all (λ (g : Factor). q g.0) (factors_in (line_form f p l))) ls) e in
         elim (in-factors v (factors_in (line_form f p l)) here) [
           | inl so ↦ inl so
           | inr none ↦ elim (in-lines v ls rest) [
@@ -156,10 +155,7 @@ module _ (f : FormulaView) (p : PartView) where
     literal-holds : (value : Bool) (o : Option LinView) → form_truth x o ≡ value → (sum_at x (factors_in (option_map (literal_form value) o)) +ℤ constant_in (option_map (literal_form value) o)) ≤ℤ pos 0
     literal-holds value None e = omega (arith, ints)
     literal-holds true (Some l) e = at-most-zero (form_at x l) e
-      where
-        at-most-zero : (z : ℤ) → int_le z (pos 0) ≡ true → z ≤ℤ pos 0
-        at-most-zero z e = grind (arith, ints)
-    literal-holds false (Some l) e = let t = sum-turned x l.factors in let a = above-zero (form_at x l) e in omega (arith, ints, t, a)
+    literal-holds false (Some l) e = let t = sum-negated x l.factors in let a = above-zero (form_at x l) e in omega (arith, ints, t, a)
       where
         above-zero : (z : ℤ) → int_le z (pos 0) ≡ false → pos 0 <ℤ z
         above-zero z e = grind (arith, ints)
@@ -236,7 +232,7 @@ module _ (f : FormulaView) (p : PartView) where
 module _ (f : FormulaView) (p : PartView) (number : ℕ) (value : Bool) (times : ℕ) (l : LinView) (line : Line) (is : line ≡ Atom number value times) (takes : is_line f p line ≡ true)
     (atoms : List LinView) (same : atoms ≡ f.atoms) (item : l ≡ slice_index_or atoms number l) where
   some-form : is_some (cond (forced f p number value) (option_map (literal_form value) (slice_get f.atoms number)) None) ≡ true
-  some-form = (both-true (is_multiplier times) (is_some (line_form f p (Atom number value times))) (ap (is_line f p) (sym is) ∙ takes)).1
+  some-form = (and_parts (is_multiplier times) (is_some (line_form f p (Atom number value times))) (ap (is_line f p) (sym is) ∙ takes)).1
 
   never : (b : Bool) (o : Option LinView) → o ≡ None → is_some (cond b (option_map (literal_form value) o) None) ≡ true → ⊥
   never true o e some = cc (sym some ∙ ap (λ (o : Option LinView). is_some (option_map (literal_form value) o)) e)
@@ -260,7 +256,7 @@ module _ (f : FormulaView) (p : PartView) (number : ℕ) (value : Bool) (times :
 
   by-sign : (value : Bool) (u : ℕ) → cond value (factor_of u l.factors) (neg_ℤ (factor_of u l.factors)) ≡ factor_of u (literal_form value l).factors
   by-sign true u = refl
-  by-sign false u = sym (factor_of-turned u l.factors)
+  by-sign false u = sym (factor_of-negated u l.factors)
 
   pub literal-factor : (u : ℕ) → cond value (factor_of u l.factors) (neg_ℤ (factor_of u l.factors)) ≡ factor_of u (factors_in (line_form f p line))
   literal-factor u = by-sign value u ∙ sym (ap (λ (o : Option LinView). factor_of u (factors_in o)) form-is)

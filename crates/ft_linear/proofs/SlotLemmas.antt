@@ -16,12 +16,12 @@ use Rattle.ft_base.specs.declared.three.Three.{Three}
 use Rattle.ft_base.specs.declared.three.Three.TheVariants.{No, Maybe, Yes}
 use Rattle.ft_linear.specs.declared.forcing.Slot.{Slot}
 use Rattle.ft_linear.specs.declared.forcing.Signs.{Signs}
-use Rattle.ft_linear.specs.Forced.{value_of}
+use Rattle.ft_linear.specs.meaning.Forced.{value_of}
 use Rattle.ft_base.specs.Three.{three_not, three_all, three_any, can_be, is_no, is_yes, all_by, any_by}
-use Rattle.ft_linear.specs.Slots.{Marked, marked, layer_slots, slots_of, only_of, IsWritten, Adds, with_more}
-use Rattle.ft_linear.proofs.NodeLemmas.{With, bare, node_induction, folds, value-At, value-Not, value-And, value-Or}
+use Rattle.ft_linear.specs.judging.Slots.{Marked, marked, layer_slots, slots_of, only_of, IsWritten, Adds, with_more}
+use Rattle.ft_linear.specs.laws.Nodes.{With, bare, node_induction, folds, value-At, value-Not, value-And, value-Or}
 use Rattle.ft_linear.proofs.ForcedLaws.{count-cons, count-yes, count-no}
-use Rattle.ft_linear.proofs.Basics.{or-none, or-assoc}
+use Rattle.std.proofs.Math.Bool.{or-false, or_assoc}
 
 above-zero : (n : ℕ) → true ≡ nat_lt 0 (suc n)
 above-zero n = grind arith
@@ -108,37 +108,37 @@ module _ (atoms : ℕ → Three) where
   below-of [] = refl
   below-of (p ∷ parts) = ap (λ (ss : List Slot). slots_of atoms p ++ ss) (below-of parts)
 
-  abbrev pub own_slot : Three → Bool → List Slot → Slot
-  own_slot v only below = record { value = v; only = only; size = length below + 1 }
+  abbrev pub node_slot : Three → Bool → List Slot → Slot
+  node_slot v only below = record { value = v; only = only; size = length below + 1 }
 
-  pub slots-At : (atom : ℕ) → slots_of atoms (At atom) ≡ own_slot (atoms atom) false [] ∷ []
+  pub slots-At : (atom : ℕ) → slots_of atoms (At atom) ≡ node_slot (atoms atom) false [] ∷ []
   slots-At atom = ap (λ (m : Marked). m.1) (marked-At atom)
 
-  pub slots-Not : (inner : Node) → slots_of atoms (Not inner) ≡ own_slot (three_not (value_of atoms inner)) false (slots_of atoms inner) ∷ slots_of atoms inner
-  slots-Not inner = ap (λ (m : Marked). m.1) (marked-Not inner) ∙ ap (λ (v : Three). own_slot (three_not v) false (slots_of atoms inner) ∷ slots_of atoms inner) (marked-value inner)
+  pub slots-Not : (inner : Node) → slots_of atoms (Not inner) ≡ node_slot (three_not (value_of atoms inner)) false (slots_of atoms inner) ∷ slots_of atoms inner
+  slots-Not inner = ap (λ (m : Marked). m.1) (marked-Not inner) ∙ ap (λ (v : Three). node_slot (three_not v) false (slots_of atoms inner) ∷ slots_of atoms inner) (marked-value inner)
 
   pub slots-And : (parts : List Node) → slots_of atoms (And parts)
-      ≡ own_slot (three_all (map (value_of atoms) parts)) (only_of false (map (value_of atoms) parts)) (flat_map (slots_of atoms) parts) ∷ flat_map (slots_of atoms) parts
+      ≡ node_slot (three_all (map (value_of atoms) parts)) (only_of false (map (value_of atoms) parts)) (flat_map (slots_of atoms) parts) ∷ flat_map (slots_of atoms) parts
   slots-And parts = ap (λ (m : Marked). m.1) (marked-And parts)
-      ∙ ap (λ (vs : List Three). own_slot (three_all vs) (only_of false vs) (flat_map (λ (m : Marked). m.1) (map (marked atoms) parts)) ∷ flat_map (λ (m : Marked). m.1) (map (marked atoms) parts)) (values-of parts)
-      ∙ ap (λ (ss : List Slot). own_slot (three_all (map (value_of atoms) parts)) (only_of false (map (value_of atoms) parts)) ss ∷ ss) (below-of parts)
+      ∙ ap (λ (vs : List Three). node_slot (three_all vs) (only_of false vs) (flat_map (λ (m : Marked). m.1) (map (marked atoms) parts)) ∷ flat_map (λ (m : Marked). m.1) (map (marked atoms) parts)) (values-of parts)
+      ∙ ap (λ (ss : List Slot). node_slot (three_all (map (value_of atoms) parts)) (only_of false (map (value_of atoms) parts)) ss ∷ ss) (below-of parts)
 
   pub slots-Or : (parts : List Node) → slots_of atoms (Or parts)
-      ≡ own_slot (three_any (map (value_of atoms) parts)) (only_of true (map (value_of atoms) parts)) (flat_map (slots_of atoms) parts) ∷ flat_map (slots_of atoms) parts
+      ≡ node_slot (three_any (map (value_of atoms) parts)) (only_of true (map (value_of atoms) parts)) (flat_map (slots_of atoms) parts) ∷ flat_map (slots_of atoms) parts
   slots-Or parts = ap (λ (m : Marked). m.1) (marked-Or parts)
-      ∙ ap (λ (vs : List Three). own_slot (three_any vs) (only_of true vs) (flat_map (λ (m : Marked). m.1) (map (marked atoms) parts)) ∷ flat_map (λ (m : Marked). m.1) (map (marked atoms) parts)) (values-of parts)
-      ∙ ap (λ (ss : List Slot). own_slot (three_any (map (value_of atoms) parts)) (only_of true (map (value_of atoms) parts)) ss ∷ ss) (below-of parts)
+      ∙ ap (λ (vs : List Three). node_slot (three_any vs) (only_of true vs) (flat_map (λ (m : Marked). m.1) (map (marked atoms) parts)) ∷ flat_map (λ (m : Marked). m.1) (map (marked atoms) parts)) (values-of parts)
+      ∙ ap (λ (ss : List Slot). node_slot (three_any (map (value_of atoms) parts)) (only_of true (map (value_of atoms) parts)) ss ∷ ss) (below-of parts)
 
   -- the first slot of a tree has its value and its number of slots
   abbrev pub Fronted : Node → Type 0
-  Fronted node = (only : Bool) × (tail : List Slot) × (slots_of atoms node ≡ own_slot (value_of atoms node) only tail ∷ tail)
+  Fronted node = (only : Bool) × (tail : List Slot) × (slots_of atoms node ≡ node_slot (value_of atoms node) only tail ∷ tail)
 
   pub fronted : (node : Node) → Fronted node
-  fronted = node_induction (λ node. (only : Bool) × (tail : List Slot) × (slots_of atoms node ≡ own_slot (value_of atoms node) only tail ∷ tail)) (record {
-    at = λ atom. (false, [], slots-At atom ∙ ap (λ (v : Three). own_slot v false [] ∷ []) (sym (value-At atoms atom)));
-    negated = λ inner h. (false, slots_of atoms inner, slots-Not inner ∙ ap (λ (v : Three). own_slot v false (slots_of atoms inner) ∷ slots_of atoms inner) (sym (value-Not atoms inner)));
-    all = λ parts. (_, _, slots-And (bare parts) ∙ ap (λ (v : Three). own_slot v (only_of false (map (value_of atoms) (bare parts))) (flat_map (slots_of atoms) (bare parts)) ∷ flat_map (slots_of atoms) (bare parts)) (sym (value-And atoms (bare parts))));
-    any = λ parts. (_, _, slots-Or (bare parts) ∙ ap (λ (v : Three). own_slot v (only_of true (map (value_of atoms) (bare parts))) (flat_map (slots_of atoms) (bare parts)) ∷ flat_map (slots_of atoms) (bare parts)) (sym (value-Or atoms (bare parts))));
+  fronted = node_induction (λ node. (only : Bool) × (tail : List Slot) × (slots_of atoms node ≡ node_slot (value_of atoms node) only tail ∷ tail)) (record {
+    at = λ atom. (false, [], slots-At atom ∙ ap (λ (v : Three). node_slot v false [] ∷ []) (sym (value-At atoms atom)));
+    negated = λ inner h. (false, slots_of atoms inner, slots-Not inner ∙ ap (λ (v : Three). node_slot v false (slots_of atoms inner) ∷ slots_of atoms inner) (sym (value-Not atoms inner)));
+    all = λ parts. (_, _, slots-And (bare parts) ∙ ap (λ (v : Three). node_slot v (only_of false (map (value_of atoms) (bare parts))) (flat_map (slots_of atoms) (bare parts)) ∷ flat_map (slots_of atoms) (bare parts)) (sym (value-And atoms (bare parts))));
+    any = λ parts. (_, _, slots-Or (bare parts) ∙ ap (λ (v : Three). node_slot v (only_of true (map (value_of atoms) (bare parts))) (flat_map (slots_of atoms) (bare parts)) ∷ flat_map (slots_of atoms) (bare parts)) (sym (value-Or atoms (bare parts))));
   })
 
   -- what a tree's slots need
@@ -156,10 +156,10 @@ module _ (atoms : ℕ → Three) where
 
   -- a tree's slots after those of its parts, once its own is put before them
   pub closes : (old mid now : List Slot) (at next : ℕ) (w whole : List Slot) (v v' : Three) (o o' : Bool) → at + 1 ≤ length old → IsWritten w (at + 1) next old mid
-      → v' ≡ v → o' ≡ o → now ≡ slice_set mid at (record { value = v'; only = o'; size = next - at }) → whole ≡ own_slot v o w ∷ w → IsWritten whole at next old now
+      → v' ≡ v → o' ≡ o → now ≡ slice_set mid at (record { value = v'; only = o'; size = next - at }) → whole ≡ node_slot v o w ∷ w → IsWritten whole at next old now
   closes old mid now at next w whole v v' o o' within (ends, wrote) ev eo is all =
       let size : next - at ≡ length w + 1 = omega (arith, ends) in
-      let s : Slot = own_slot v o w in
+      let s : Slot = node_slot v o w in
       let same : ◌≡◌ {A = Slot} (record { value = v'; only = o'; size = next - at }) s = λ i. record { value = ev i; only = eo i; size = size i } in
       let d : Slot = s in
       let below : at < length old = omega (arith, within) in
@@ -190,21 +190,21 @@ module _ (atoms : ℕ → Three) (parts : List Node) (no_count yes_count n : ℕ
   pub only-Or-by : nat_eq (no_count + 1) n ≡ only_of true (map (value_of atoms) parts)
   only-Or-by = (λ i. nat_eq (ns i + 1) (count-all i)) ∙ one-no (map (value_of atoms) parts)
 
-  pub whole-And : (node : Node) → node ≡ And parts → slots_of atoms node ≡ own_slot atoms (value_of atoms node) (only_of false (map (value_of atoms) parts)) (flat_map (slots_of atoms) parts) ∷ flat_map (slots_of atoms) parts
+  pub whole-And : (node : Node) → node ≡ And parts → slots_of atoms node ≡ node_slot atoms (value_of atoms node) (only_of false (map (value_of atoms) parts)) (flat_map (slots_of atoms) parts) ∷ flat_map (slots_of atoms) parts
   whole-And node is = ap (slots_of atoms) is ∙ slots-And atoms parts
-      ∙ ap (λ (v : Three). own_slot atoms v (only_of false (map (value_of atoms) parts)) (flat_map (slots_of atoms) parts) ∷ flat_map (slots_of atoms) parts) (sym (ap (value_of atoms) is ∙ value-And atoms parts))
+      ∙ ap (λ (v : Three). node_slot atoms v (only_of false (map (value_of atoms) parts)) (flat_map (slots_of atoms) parts) ∷ flat_map (slots_of atoms) parts) (sym (ap (value_of atoms) is ∙ value-And atoms parts))
 
-  pub whole-Or : (node : Node) → node ≡ Or parts → slots_of atoms node ≡ own_slot atoms (value_of atoms node) (only_of true (map (value_of atoms) parts)) (flat_map (slots_of atoms) parts) ∷ flat_map (slots_of atoms) parts
+  pub whole-Or : (node : Node) → node ≡ Or parts → slots_of atoms node ≡ node_slot atoms (value_of atoms node) (only_of true (map (value_of atoms) parts)) (flat_map (slots_of atoms) parts) ∷ flat_map (slots_of atoms) parts
   whole-Or node is = ap (slots_of atoms) is ∙ slots-Or atoms parts
-      ∙ ap (λ (v : Three). own_slot atoms v (only_of true (map (value_of atoms) parts)) (flat_map (slots_of atoms) parts) ∷ flat_map (slots_of atoms) parts) (sym (ap (value_of atoms) is ∙ value-Or atoms parts))
+      ∙ ap (λ (v : Three). node_slot atoms v (only_of true (map (value_of atoms) parts)) (flat_map (slots_of atoms) parts) ∷ flat_map (slots_of atoms) parts) (sym (ap (value_of atoms) is ∙ value-Or atoms parts))
 
-pub whole-Not : (atoms : ℕ → Three) (inner node : Node) → node ≡ Not inner → slots_of atoms node ≡ own_slot atoms (value_of atoms node) false (slots_of atoms inner) ∷ slots_of atoms inner
+pub whole-Not : (atoms : ℕ → Three) (inner node : Node) → node ≡ Not inner → slots_of atoms node ≡ node_slot atoms (value_of atoms node) false (slots_of atoms inner) ∷ slots_of atoms inner
 whole-Not atoms inner node is = ap (slots_of atoms) is ∙ slots-Not atoms inner
-    ∙ ap (λ (v : Three). own_slot atoms v false (slots_of atoms inner) ∷ slots_of atoms inner) (sym (ap (value_of atoms) is ∙ value-Not atoms inner))
+    ∙ ap (λ (v : Three). node_slot atoms v false (slots_of atoms inner) ∷ slots_of atoms inner) (sym (ap (value_of atoms) is ∙ value-Not atoms inner))
 
-pub whole-At : (atoms : ℕ → Three) (atom : ℕ) (node : Node) → node ≡ At atom → slots_of atoms node ≡ own_slot atoms (value_of atoms node) false [] ∷ []
+pub whole-At : (atoms : ℕ → Three) (atom : ℕ) (node : Node) → node ≡ At atom → slots_of atoms node ≡ node_slot atoms (value_of atoms node) false [] ∷ []
 whole-At atoms atom node is = ap (slots_of atoms) is ∙ slots-At atoms atom
-    ∙ ap (λ (v : Three). own_slot atoms v false [] ∷ []) (sym (ap (value_of atoms) is ∙ value-At atoms atom))
+    ∙ ap (λ (v : Three). node_slot atoms v false [] ∷ []) (sym (ap (value_of atoms) is ∙ value-At atoms atom))
 
 -- room for one more part
 pub room-part : (f : Node → List Slot) (parts : List Node) (i : ℕ) (part : Node) (at next n m : ℕ) → i < length parts → part ≡ slice_index_or parts i part
@@ -238,14 +238,14 @@ count-more p f parts i part within is =
 
 adds-nothing : (o : Option Signs) → o ≡ option_map (with_more false false) o
 adds-nothing None = refl
-adds-nothing (Some signs) = ap Some (λ i. record { yes = sym (or-none signs.yes) i; no = sym (or-none signs.no) i })
+adds-nothing (Some signs) = ap Some (λ i. record { yes = sym (or-false signs.yes) i; no = sym (or-false signs.no) i })
 
 pub adds-none : (signs : List Signs) → Adds (λ a s. false) signs signs
 adds-none signs a = adds-nothing (slice_get signs a)
 
 adds-twice : (a b c d : Bool) (o : Option Signs) → option_map (with_more c d) (option_map (with_more a b) o) ≡ option_map (with_more (a || c) (b || d)) o
 adds-twice a b c d None = refl
-adds-twice a b c d (Some signs) = ap Some (λ i. record { yes = or-assoc signs.yes a c i; no = or-assoc signs.no b d i })
+adds-twice a b c d (Some signs) = ap Some (λ i. record { yes = or_assoc signs.yes a c i; no = or_assoc signs.no b d i })
 
 pub adds-then : (f g : ℕ → Bool → Bool) (old mid now : List Signs) → Adds f old mid → Adds g mid now → Adds (λ a s. f a s || g a s) old now
 adds-then f g old mid now h k a = k a ∙ ap (option_map (with_more (g a true) (g a false))) (h a) ∙ adds-twice (f a true) (f a false) (g a true) (g a false) (slice_get old a)

@@ -1,18 +1,13 @@
 -- Sums of factors, unknown by unknown.
 use Rattle.std.proofs.Common.{◌≡◌, ◌≢◌, ◌∙◌, inl, inr, sym, ap, refl, ℕ, zero, suc, ◌+◌, ◌<◌, ◌≤◌, ℤ, pos, ◌+ℤ◌, ◌*ℤ◌, neg_ℤ, Bool, true, false, cond, List, [], ◌∷◌, ◌++◌, map, arith}
 use Rattle.std.specs.Prelude.{nat_eq}
-use Rattle.std.proofs.lemmas.Bool.{cases_Bool}
+use Rattle.std.proofs.lemmas.Bool.{cases_Bool, eqb-true}
 use Rattle.std.proofs.lemmas.Int.{ints}
 use Rattle.std.proofs.Math.IntN.{suc_ℤ-*ℤ, zero-*ℤ}
-use Rattle.ft_linear.specs.Form.{Factor, sum_at}
-use Rattle.ft_linear.specs.Rules.{factor_of}
+use Rattle.ft_linear.specs.meaning.Form.{Factor, scaled, sum_at}
+use Rattle.ft_linear.specs.meaning.Rules.{factor_of}
 use Rattle.ft_linear.proofs.Whole.{add-mul, mul-add, neg-mul}
-use Rattle.ft_linear.proofs.ForcedLaws.{eq-nat}
 use Rattle.ft_linear.proofs.Basics.{opposites}
-
-abbrev pub scaled : ℕ → List Factor → List Factor
-scaled t [] = []
-scaled t (f ∷ fs) = (f.0, pos t *ℤ f.1) ∷ scaled t fs
 
 -- the sum of a function over the numbers below n
 total : ℕ → (ℕ → ℤ) → ℤ
@@ -35,7 +30,7 @@ at_one x v f u = cond (nat_eq v u) f (pos 0) *ℤ x u
 
 pub not-equal : (v u : ℕ) → v ≢ u → nat_eq v u ≡ false
 not-equal v u h = elim (cases_Bool (nat_eq v u)) [
-  | inl so ↦ absurd (h (eq-nat v u so))
+  | inl so ↦ absurd (h (eqb-true v u so))
   | inr isnt ↦ isnt
 ]
 
@@ -53,7 +48,7 @@ unfolding total
 total-one zero x v f h = absurd (omega (arith, h))
 total-one (suc n) x v f h = elim (cases_Bool (nat_eq v n)) [
   | inl so ↦
-      let e = eq-nat v n so in
+      let e = eqb-true v n so in
       let r = total-zero n (at_one x v f) (λ u below. at-another x v f u (λ same. omega (arith, same, below, e))) in
       let here : at_one x v f n ≡ f *ℤ x v = ap (at_one x v f) (sym e) ∙ at-itself x v f in
       omega (arith, ints, r, here)
@@ -100,7 +95,7 @@ pub alone : (x : ℕ → ℤ) (u : ℕ) (fs : List Factor) → ((v : ℕ) → v 
 alone x u fs h =
     let g : ℤ = factor_of u fs in
     let all : (v : ℕ) → factor_of v ((u, neg_ℤ g) ∷ fs) ≡ pos 0 = λ v. elim (cases_Bool (nat_eq u v)) [
-      | inl so ↦ ap (λ (b : Bool). cond b (neg_ℤ g) (pos 0) +ℤ factor_of v fs) so ∙ ap (λ (w : ℕ). neg_ℤ g +ℤ factor_of w fs) (sym (eq-nat u v so)) ∙ opposites g
+      | inl so ↦ ap (λ (b : Bool). cond b (neg_ℤ g) (pos 0) +ℤ factor_of v fs) so ∙ ap (λ (w : ℕ). neg_ℤ g +ℤ factor_of w fs) (sym (eqb-true u v so)) ∙ opposites g
       | inr isnt ↦ ap (λ (b : Bool). cond b (neg_ℤ g) (pos 0) +ℤ factor_of v fs) isnt ∙ ap (λ (z : ℤ). pos 0 +ℤ z) (h v (λ same. cc (sym isnt ∙ ap (nat_eq u) same ∙ equal-to-itself u)))
     ] in
     let e = cancels x ((u, neg_ℤ g) ∷ fs) all in
@@ -138,18 +133,18 @@ factor_of-scaled u t (f ∷ fs) =
     let d = mul-add (pos t) (cond (nat_eq f.0 u) f.1 (pos 0)) (factor_of u fs) in
     omega (arith, ints, c, r, d)
 
--- the factors with their signs turned
-abbrev pub turned : List Factor → List Factor
-turned fs = map (λ f. (f.0, neg_ℤ f.1)) fs
+-- the factors of minus the form
+abbrev pub negated_factors : List Factor → List Factor
+negated_factors fs = map (λ f. (f.0, neg_ℤ f.1)) fs
 
 cond-neg : (b : Bool) (f : ℤ) → cond b (neg_ℤ f) (pos 0) ≡ neg_ℤ (cond b f (pos 0))
 cond-neg true f = refl
 cond-neg false f = refl
 
-pub factor_of-turned : (u : ℕ) (fs : List Factor) → factor_of u (turned fs) ≡ neg_ℤ (factor_of u fs)
-factor_of-turned u [] = refl
-factor_of-turned u (f ∷ fs) = let c = cond-neg (nat_eq f.0 u) f.1 in let r = factor_of-turned u fs in omega (arith, ints, c, r)
+pub factor_of-negated : (u : ℕ) (fs : List Factor) → factor_of u (negated_factors fs) ≡ neg_ℤ (factor_of u fs)
+factor_of-negated u [] = refl
+factor_of-negated u (f ∷ fs) = let c = cond-neg (nat_eq f.0 u) f.1 in let r = factor_of-negated u fs in omega (arith, ints, c, r)
 
-pub sum-turned : (x : ℕ → ℤ) (fs : List Factor) → sum_at x (turned fs) ≡ neg_ℤ (sum_at x fs)
-sum-turned x [] = refl
-sum-turned x (f ∷ fs) = let n = neg-mul f.1 (x f.0) in let r = sum-turned x fs in omega (arith, ints, n, r)
+pub sum-negated : (x : ℕ → ℤ) (fs : List Factor) → sum_at x (negated_factors fs) ≡ neg_ℤ (sum_at x fs)
+sum-negated x [] = refl
+sum-negated x (f ∷ fs) = let n = neg-mul f.1 (x f.0) in let r = sum-negated x fs in omega (arith, ints, n, r)

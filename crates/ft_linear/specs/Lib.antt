@@ -1,12 +1,4 @@
-pub mod Bounds
-pub mod Form
-pub mod Truth
-pub mod Formula
-pub mod Evaluate
-pub mod Forced
-pub mod Part
-pub mod Slots
-pub mod Marks
-pub mod Rules
-pub mod Cancelling
-pub mod Canonical
+pub mod judging
+pub mod laws
+pub mod meaning
+pub mod summing

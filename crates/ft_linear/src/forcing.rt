@@ -2,8 +2,8 @@
 ghost use Rattle.std.specs.Prelude.{◌≡◌, ◌≤◌, ◌+◌, ℕ, Bool, true, length, drop, take, List, nat_eq, ◌&&◌, ◌++◌, map, count_by, slice_get, option_map, ◌||◌, not, cond, slice_set, ◌-◌, Some};
 ghost use Rattle.std.specs.List.{flat_map, list_any};
 ghost use Rattle.ft_base.specs.Three.{is_no, is_yes, can_be, three_all, three_any};
-ghost use Rattle.ft_linear.specs.Forced.{forces, value_of, parts_force, same_bool, by_each, by_only, seen};
-ghost use Rattle.ft_linear.specs.Slots.{value_at, slots_of, only_of, IsWritten, StartsWith, Adds, with_more};
+ghost use Rattle.ft_linear.specs.meaning.Forced.{forces, value_of, parts_force, same_bool, by_each, by_only, seen};
+ghost use Rattle.ft_linear.specs.judging.Slots.{value_at, slots_of, only_of, IsWritten, StartsWith, Adds, with_more};
 
 use crate::node::Node;
 use ft_base::Three;
@@ -66,13 +66,6 @@ fn value(values: &[Three], atom: usize) -> Three
     }
 }
 
-/// One where it is true.
-fn count_of(is: bool) -> usize
-    ensures { result ≡ cond is 1 0 }
-{
-    usize::from(is)
-}
-
 /// Whether one part is left beside those that are settled.
 fn one_left(settled: usize, parts: usize) -> bool
     requires { settled ≤ parts }
@@ -111,8 +104,8 @@ fn evaluate_parts(parts: &[Node], values: &[Three], slots: &mut [Slot], at: usiz
     for part in parts {
         let evaluated = evaluate_up(part, values, slots, next);
         next = evaluated.next;
-        no += count_of(evaluated.value.is_no());
-        yes += count_of(evaluated.value.is_yes());
+        no += usize::from(evaluated.value.is_no());
+        yes += usize::from(evaluated.value.is_yes());
     }
     PartCounts { next, no, yes }
 }
@@ -177,14 +170,6 @@ fn mark(signs: &mut [Signs], atom: usize, sign: bool)
     }
 }
 
-/// The slots below a tree's own.
-fn inner_slots(slots: &[Slot]) -> &[Slot]
-    requires { 1 ≤ length slots.now }
-    ensures { result.now ≡ drop 1 slots.now }
-{
-    &slots[1..]
-}
-
 /// The slot of a tree.
 fn root_slot(slots: &[Slot]) -> Slot
     requires { 1 ≤ length slots.now }
@@ -193,7 +178,7 @@ fn root_slot(slots: &[Slot]) -> Slot
     slots[0]
 }
 
-/// The slots after the first tree.
+/// The slots after the first so many.
 fn slots_after(slots: &[Slot], size: usize) -> &[Slot]
     requires { size ≤ length slots.now }
     ensures { result.now ≡ drop size slots.now }
@@ -262,7 +247,7 @@ fn force_down(node: &Node, want: bool, values: &[Three], slots: &[Slot], signs: 
 {
     match node {
         Node::At(atom) => mark(signs, *atom as usize, want),
-        Node::Not(inner) => force_down(inner.get(), !want, values, inner_slots(slots), signs),
+        Node::Not(inner) => force_down(inner.get(), !want, values, slots_after(slots, 1), signs),
         Node::And(parts) => {
             let root = root_slot(slots);
             if is_asked(want, root.only) {
@@ -271,7 +256,7 @@ fn force_down(node: &Node, want: bool, values: &[Three], slots: &[Slot], signs: 
                     want,
                     want,
                     values,
-                    inner_slots(slots),
+                    slots_after(slots, 1),
                     signs,
                 )
             }
@@ -284,7 +269,7 @@ fn force_down(node: &Node, want: bool, values: &[Three], slots: &[Slot], signs: 
                     want,
                     !want,
                     values,
-                    inner_slots(slots),
+                    slots_after(slots, 1),
                     signs,
                 )
             }

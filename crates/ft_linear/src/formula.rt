@@ -1,10 +1,10 @@
 ghost use Rattle.std.specs.Prelude.{◌≡◌, ◌↔◌, IsTrue, ◌≤◌, ◌+ℤ◌, ◌*ℤ◌, ℤ, true, length, All, unsigned_abs, slice_get, int_le};
 ghost use Rattle.std.specs.Option.{SomeIff};
 ghost use Rattle.std.specs.List.{list_all, list_any};
-ghost use Rattle.ft_linear.specs.Form.{LinView, IsSmall, HasUnknowns, values_at, form_at, sum_at};
-ghost use Rattle.ft_linear.specs.Truth.{truth};
-ghost use Rattle.ft_linear.specs.Formula.{atom_at, atoms_below, form_truth, IsOver, truth_at};
-ghost use Rattle.ft_linear.specs.Evaluate.{CanEvaluate};
+ghost use Rattle.ft_linear.specs.meaning.Form.{LinView, IsSmall, HasUnknowns, values_at, form_at, sum_at};
+ghost use Rattle.ft_linear.specs.meaning.Truth.{truth};
+ghost use Rattle.ft_linear.specs.meaning.Formula.{atom_at, atoms_below, form_truth, IsOver, truth_at};
+ghost use Rattle.ft_linear.specs.judging.Evaluation.{CanEvaluate};
 
 use crate::lin::Lin;
 use crate::node::Node;
@@ -22,7 +22,7 @@ impl Model for Formula {
     ghost use Rattle.std.specs.Prelude.{◌≡◌, true, length};
     ghost use Rattle.std.specs.Coded.{codes};
     ghost use Rattle.ft_linear.specs.contracts.node.Node as node;
-    ghost use Rattle.ft_linear.specs.Formula.{FormulaView, atoms_below};
+    ghost use Rattle.ft_linear.specs.meaning.Formula.{FormulaView, atoms_below};
 
     ghost Value = { FormulaView };
 
@@ -34,12 +34,12 @@ impl Model for Formula {
 }
 
 /// Whether each atom of some trees is below this number.
-#[cycle(below)]
-fn all_below(parts: &[Node], count: usize) -> bool
+#[cycle(has_atoms_below)]
+fn have_atoms_below(parts: &[Node], count: usize) -> bool
     ensures { result ≡ list_all (atoms_below count) parts.now }
 {
     for part in parts {
-        if !below(part, count) {
+        if !has_atoms_below(part, count) {
             return false;
         }
     }
@@ -47,15 +47,15 @@ fn all_below(parts: &[Node], count: usize) -> bool
 }
 
 /// Whether each atom of a tree is below this number.
-#[cycle(below)]
-fn below(node: &Node, count: usize) -> bool
+#[cycle(has_atoms_below)]
+fn has_atoms_below(node: &Node, count: usize) -> bool
     ensures { result ≡ atoms_below count node.now }
 {
     match node {
         Node::At(atom) => (*atom as usize) < count,
-        Node::Not(inner) => below(inner.get(), count),
-        Node::And(parts) => all_below(parts.as_slice(), count),
-        Node::Or(parts) => all_below(parts.as_slice(), count),
+        Node::Not(inner) => has_atoms_below(inner.get(), count),
+        Node::And(parts) => have_atoms_below(parts.as_slice(), count),
+        Node::Or(parts) => have_atoms_below(parts.as_slice(), count),
     }
 }
 
@@ -77,7 +77,7 @@ impl Formula {
     pub fn new(atoms: List<Lin>, root: Node) -> Option<Formula>
         ensures { SomeIff result (atoms_below (length atoms) root ≡ true) (record { atoms = atoms; root = root }) }
     {
-        if below(&root, atoms.len()) {
+        if has_atoms_below(&root, atoms.len()) {
             Some(Formula { atoms, root })
         } else {
             None
@@ -91,8 +91,8 @@ impl Formula {
         are_over(self.atoms(), count)
     }
 
-    /// The formula with these atoms and a tree that has no others.
-    pub(crate) fn of_placed(atoms: List<Lin>, root: Node) -> Formula
+    /// The formula with these atoms and this tree, of which the caller knows that it has no others.
+    pub fn of_parts(atoms: List<Lin>, root: Node) -> Formula
         requires { atoms_below (length atoms) root ≡ true }
         ensures { result ≡ record { atoms = atoms; root = root } }
     {

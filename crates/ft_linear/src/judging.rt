@@ -3,11 +3,12 @@
 ghost use Rattle.std.specs.Prelude.{◌≡◌, ◌<◌, ◌&&◌, ◌||◌, ℕ, ℤ, Bool, true, false, length, slice_get, if◌then◌else◌};
 ghost use Rattle.std.specs.List.{list_any, list_all};
 ghost use Rattle.ft_base.specs.declared.three.Three.TheVariants.{No, Maybe, Yes};
-ghost use Rattle.ft_linear.specs.Formula.{IsOver, Satisfies, atom_at};
+ghost use Rattle.ft_linear.specs.meaning.Formula.{IsOver, Satisfies, atom_at};
 ghost use Rattle.ft_base.specs.Three.{is_no, is_yes};
-ghost use Rattle.ft_linear.specs.Part.{PointOf, against, agrees, atom_value, atoms_of, forced, is_against, is_agreed, is_forced_both, truth_of, value_by};
-ghost use Rattle.ft_linear.specs.Marks.{AreFor, AreJudged, CanWeigh, decided_at, decided_signs, signs_of, size_of};
-ghost use Rattle.ft_linear.specs.Form.{InArea};
+ghost use Rattle.ft_linear.specs.meaning.Part.{PointOf, against, agrees, atom_value, atoms_of, forced, is_against, is_agreed, is_forced_both, truth_of, value_by};
+ghost use Rattle.ft_linear.specs.meaning.Marks.{AreFor, AreJudged, signs_of, size_of};
+ghost use Rattle.ft_linear.specs.judging.Weighing.{CanWeigh, decided_at, decided_signs};
+ghost use Rattle.ft_linear.specs.meaning.Form.{InArea};
 
 use crate::forcing::{Signs, Slot, mark_forced};
 use crate::formula::Formula;
@@ -65,20 +66,6 @@ fn is_agreed(decision: Option<bool>, fixed: Three) -> bool
     }
 }
 
-/// Whether one of two is so.
-fn either(first: bool, second: bool) -> bool
-    ensures { result ≡ (first || second) }
-{
-    first || second
-}
-
-/// Whether two are so.
-fn both(first: bool, second: bool) -> bool
-    ensures { result ≡ (first && second) }
-{
-    first && second
-}
-
 /// The decision of an atom.
 fn decision_at(decisions: &[Option<bool>], atom: usize) -> Option<bool>
     requires { atom < length decisions.now }
@@ -104,24 +91,24 @@ fn weigh(formula: &Formula, part: &Part, values: &mut [Three], signs: &mut [Sign
         let fixed = atom.fixed(spans);
         values[at] = value_by(decision, fixed);
         signs[at] = decided_signs(decision);
-        against = either(against, is_against(decision, fixed));
-        agreed = both(agreed, is_agreed(decision, fixed));
+        against |= is_against(decision, fixed);
+        agreed &= is_agreed(decision, fixed);
     }
     Weighed { against, agreed }
 }
 
 /// Whether some atom is forced both ways.
-fn any_both(signs: &[Signs]) -> bool
+fn any_both_ways(signs: &[Signs]) -> bool
     ensures { result ≡ list_any (λ s. s.yes && s.no) signs.now }
 {
     signs.iter().any(|s| s.yes && s.no)
 }
 
 /// The truth of a part, by its root's value and what the atoms tell.
-fn truth_by(root: Three, against: bool, both: bool, agreed: bool) -> Three
-    ensures { result ≡ if is_no root || against || both then No else if is_yes root && agreed then Yes else Maybe }
+fn truth_by(root: Three, against: bool, both_ways: bool, agreed: bool) -> Three
+    ensures { result ≡ if is_no root || against || both_ways then No else if is_yes root && agreed then Yes else Maybe }
 {
-    if root == Three::No || against || both {
+    if root == Three::No || against || both_ways {
         Three::No
     } else if root == Three::Yes && agreed {
         Three::Yes
@@ -146,7 +133,7 @@ fn judge_in(
 {
     let weighed = weigh(formula, part, values, signs);
     let root = mark_forced(formula.root(), values, slots, signs);
-    truth_by(root, weighed.against, any_both(signs), weighed.agreed)
+    truth_by(root, weighed.against, any_both_ways(signs), weighed.agreed)
 }
 
 /// The truth of the formula in a part of its area: No only where no point of the part satisfies it, Yes only where

@@ -1,8 +1,7 @@
-ghost use Rattle.std.specs.Prelude.{◌≡◌, ◌≢◌, ◌≤◌, ◌↔◌, IsTrue, pos, length, nat_le, unsigned_abs, All};
+ghost use Rattle.std.specs.Prelude.{◌≡◌, ◌≢◌, ◌≤◌, ◌↔◌, IsTrue, pos, length, unsigned_abs, All};
 ghost use Rattle.std.specs.Option.{SomeIff};
-ghost use Rattle.ft_linear.specs.Bounds.{moderate_most};
-ghost use Rattle.ft_linear.specs.Form.{IsProper, IsSmall, AreRising, HasUnknowns, values_at, form_at};
-ghost use Rattle.ft_linear.specs.Part.{fixed_form};
+ghost use Rattle.ft_linear.specs.meaning.Form.{IsProper, IsSmall, AreRising, HasUnknowns, values_at, form_at};
+ghost use Rattle.ft_linear.specs.meaning.Part.{fixed_form};
 
 use crate::sums::{least_of, most_of, sum_of, whole};
 use ft_base::{List, Span, Three};
@@ -22,7 +21,7 @@ pub struct Lin {
 }
 
 impl Model for Lin {
-    ghost use Rattle.ft_linear.specs.Form.{LinView, IsProper};
+    ghost use Rattle.ft_linear.specs.meaning.Form.{LinView, IsProper};
 
     ghost Value = { LinView };
 
@@ -102,15 +101,8 @@ impl Lin {
             .all(|factor| (factor.0 as usize) < count)
     }
 
-    /// Whether the constant is at most 3,000,000,000,000,000 either way.
-    pub fn is_moderate(&self) -> bool
-        ensures { result ≡ nat_le (unsigned_abs self.now.constant) moderate_most }
-    {
-        self.constant.unsigned_abs() <= 3_000_000_000_000_000
-    }
-
-    /// The form with a proper list of factors and a proper constant.
-    pub(crate) fn of_proper(factors: List<(u32, i64)>, constant: i64) -> Lin
+    /// The form with these factors and this constant, of which the caller knows that they make one.
+    pub fn of_proper(factors: List<(u32, i64)>, constant: i64) -> Lin
         requires { IsProper factors constant }
         ensures { result ≡ record { factors = factors; constant = constant } }
     {

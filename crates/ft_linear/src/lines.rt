@@ -1,11 +1,11 @@
 // The lines of a sum: forced literals and bounds, each with its form and its multiplier.
 
 ghost use Rattle.std.specs.Prelude.{◌≡◌, ◌≤◌, ◌<◌, ◌+◌, ◌&&◌, ◌-ℤ◌, neg_ℤ, pos, true, [], ◌∷◌, length, slice_get, unsigned_abs, is_some, if◌then◌else◌};
-ghost use Rattle.ft_linear.specs.Bounds.{line_most};
-ghost use Rattle.ft_linear.specs.Form.{AreRising, IsSmall, span_at};
-ghost use Rattle.ft_linear.specs.Part.{forced};
-ghost use Rattle.ft_linear.specs.Marks.{AreFor, AreJudged};
-ghost use Rattle.ft_linear.specs.Rules.{are_lines, constant_in, factor_of, factors_in, is_line, is_multiplier, line_form, times_of};
+ghost use Rattle.ft_linear.specs.summing.Sizes.{line_most};
+ghost use Rattle.ft_linear.specs.meaning.Form.{AreRising, IsSmall, span_at};
+ghost use Rattle.ft_linear.specs.meaning.Part.{forced};
+ghost use Rattle.ft_linear.specs.meaning.Marks.{AreFor, AreJudged};
+ghost use Rattle.ft_linear.specs.meaning.Rules.{are_lines, constant_in, factor_of, factors_in, is_line, is_multiplier, line_form, times_of};
 
 use crate::formula::Formula;
 use crate::marks::Marks;
@@ -72,7 +72,7 @@ fn is_forced(formula: &Formula, part: &Part, marks: &Marks, atom: usize, value: 
     if atom >= formula.atoms().len() {
         return false;
     }
-    marks.has_sign(atom, value)
+    marks.is_forced(atom, value)
 }
 
 /// Whether a line has a form: its literal is forced, or its unknown is there.
@@ -108,7 +108,7 @@ pub fn are_lines(formula: &Formula, part: &Part, marks: &Marks, lines: &[Line]) 
 }
 
 /// The factor of an unknown in a form, whose unknowns rise.
-fn factor_of(factors: &[(u32, i64)], unknown: u32) -> i64
+pub fn factor_of(factors: &[(u32, i64)], unknown: u32) -> i64
     requires { AreRising 0 factors.now }
     ensures value { result ≡ factor_of unknown factors.now }
     ensures small { IsSmall result }
@@ -121,22 +121,22 @@ fn factor_of(factors: &[(u32, i64)], unknown: u32) -> i64
     0
 }
 
-/// The factor of an unknown in a form that has one unknown alone, with this factor.
-fn unit_at(own: u32, unknown: u32, unit: i64) -> i64
+/// The factor of an unknown in a form that has one unknown alone, with the factor 1 or -1.
+fn unit_factor(bounded: u32, unknown: u32, unit: i64) -> i64
     requires { unsigned_abs unit ≤ 1 }
-    ensures value { result ≡ factor_of unknown ((own, unit) ∷ []) }
+    ensures value { result ≡ factor_of unknown ((bounded, unit) ∷ []) }
     ensures small { IsSmall result }
 {
-    if own == unknown { unit } else { 0 }
+    if bounded == unknown { unit } else { 0 }
 }
 
-/// The number, or minus it.
-pub fn signed(value: bool, number: i64) -> i64
-    requires { IsSmall number }
-    ensures value { result ≡ if value then number else neg_ℤ number }
+/// A factor of a literal's form, by that of its atom: the same where the atom is to be true, and else minus it.
+pub fn literal_factor(value: bool, factor: i64) -> i64
+    requires { IsSmall factor }
+    ensures value { result ≡ if value then factor else neg_ℤ factor }
     ensures small { IsSmall result }
 {
-    if value { number } else { -number }
+    if value { factor } else { -factor }
 }
 
 /// The factor of an unknown in a line.
@@ -146,17 +146,23 @@ pub fn line_factor(formula: &Formula, part: &Part, line: &Line, unknown: u32) ->
     ensures small { unsigned_abs result ≤ line_most }
 {
     match *line {
-        Line::Atom { number, value, .. } => signed(
+        Line::Atom { number, value, .. } => literal_factor(
             value,
             factor_of(formula.atoms()[number as usize].factors(), unknown),
         ),
-        Line::Upper { unknown: own, .. } => unit_at(own, unknown, 1),
-        Line::Lower { unknown: own, .. } => unit_at(own, unknown, -1),
+        Line::Upper {
+            unknown: bounded,
+            ..
+        } => unit_factor(bounded, unknown, 1),
+        Line::Lower {
+            unknown: bounded,
+            ..
+        } => unit_factor(bounded, unknown, -1),
     }
 }
 
-/// The constant, or 1 minus it.
-pub fn turned(value: bool, constant: i64) -> i64
+/// The constant of a literal's form, by that of its atom: the same where the atom is to be true, and else 1 minus it.
+pub fn literal_constant(value: bool, constant: i64) -> i64
     requires { IsSmall constant }
     ensures value { result ≡ if value then constant else (pos 1 -ℤ constant) }
     ensures small { unsigned_abs result ≤ unsigned_abs constant + 1 }
@@ -165,7 +171,7 @@ pub fn turned(value: bool, constant: i64) -> i64
 }
 
 /// The greatest number of an unknown.
-fn upper(part: &Part, unknown: usize) -> i64
+fn upper_bound(part: &Part, unknown: usize) -> i64
     requires { unknown < length part.now.spans }
     ensures value { result ≡ (span_at part.now.spans unknown).1 }
     ensures small { IsSmall result }
@@ -174,7 +180,7 @@ fn upper(part: &Part, unknown: usize) -> i64
 }
 
 /// The least number of an unknown.
-fn lower(part: &Part, unknown: usize) -> i64
+fn lower_bound(part: &Part, unknown: usize) -> i64
     requires { unknown < length part.now.spans }
     ensures value { result ≡ (span_at part.now.spans unknown).0 }
     ensures small { IsSmall result }
@@ -190,9 +196,9 @@ pub fn line_constant(formula: &Formula, part: &Part, line: &Line) -> i64
 {
     match *line {
         Line::Atom { number, value, .. } => {
-            turned(value, formula.atoms()[number as usize].constant())
+            literal_constant(value, formula.atoms()[number as usize].constant())
         }
-        Line::Upper { unknown, .. } => -upper(part, unknown as usize),
-        Line::Lower { unknown, .. } => lower(part, unknown as usize),
+        Line::Upper { unknown, .. } => -upper_bound(part, unknown as usize),
+        Line::Lower { unknown, .. } => lower_bound(part, unknown as usize),
     }
 }

@@ -1,6 +1,6 @@
 ghost use Rattle.std.specs.Prelude.{◌≡◌, ◌+◌, ◌<◌, length, map, sum, slice_get, IfOk, OnOk};
 ghost use Rattle.std.specs.Option.{option_map};
-ghost use Rattle.ft_linear.specs.Marks.{MarksView, size_of, literal_of, sign_of};
+ghost use Rattle.ft_linear.specs.meaning.Marks.{MarksView, size_of, literal_of, sign_of};
 
 use crate::forcing::{Signs, Slot};
 use crate::formula::Formula;
@@ -21,7 +21,7 @@ pub struct Marks {
 
 impl Model for Marks {
     ghost use Rattle.std.specs.Prelude.{length};
-    ghost use Rattle.ft_linear.specs.Marks.{MarksView};
+    ghost use Rattle.ft_linear.specs.meaning.Marks.{MarksView};
 
     ghost Value = { MarksView };
 
@@ -91,7 +91,8 @@ impl Marks {
         })
     }
 
-    /// Which literal of an atom is forced. Of an atom that is forced both ways it is the atom itself.
+    /// Which literal of an atom is forced. Of an atom that is forced both ways, which makes the truth No, it is the atom
+    /// itself; `is_forced` tells both.
     pub fn forced(&self, atom: u32) -> Option<bool>
         requires { atom < length self.now.signs }
         ensures { option_map literal_of (slice_get self.now.signs atom) ≡ Some result }
@@ -114,8 +115,8 @@ impl Marks {
         self.values[atom as usize]
     }
 
-    /// Whether a literal of an atom is forced.
-    pub(crate) fn has_sign(&self, atom: usize, value: bool) -> bool
+    /// Whether the literal of an atom with this truth is forced.
+    pub fn is_forced(&self, atom: usize, value: bool) -> bool
         requires { atom < length self.now.signs }
         ensures { option_map (sign_of value) (slice_get self.now.signs atom) ≡ Some result }
     {

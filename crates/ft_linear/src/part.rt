@@ -1,5 +1,5 @@
 ghost use Rattle.std.specs.Prelude.{◌≡◌, ◌<◌, length, map, slice_get, slice_set, IfOk};
-ghost use Rattle.ft_linear.specs.Part.{PartView};
+ghost use Rattle.ft_linear.specs.meaning.Part.{PartView};
 
 use crate::area::Area;
 use crate::formula::Formula;
@@ -16,7 +16,7 @@ pub struct Part {
 }
 
 impl Model for Part {
-    ghost use Rattle.ft_linear.specs.Part.{PartView};
+    ghost use Rattle.ft_linear.specs.meaning.Part.{PartView};
 
     ghost Value = { PartView };
 

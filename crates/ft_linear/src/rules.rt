@@ -4,20 +4,27 @@
 // 2^62 that is below 1.85e34, and 4,300 lines add up to less than 7.94e37 either way, which an i128 holds
 // in any order of adding. So the number of lines and each multiplier are tested before the first product.
 
-ghost use Rattle.std.specs.Prelude.{◌≡◌, ◌≤◌, ◌<◌, ◌+◌, ◌*◌, ◌||◌, ◌↔◌, ◌+ℤ◌, ◌*ℤ◌, ◌<ℤ◌, neg_ℤ, ℕ, ℤ, pos, Bool, true, false, length, unsigned_abs, IsTrue, IfSome, IfNone};
+ghost use Rattle.std.specs.Prelude.{◌≡◌, ◌≤◌, ◌<◌, ◌+◌, ◌*◌, ◌||◌, ◌↔◌, ◌+ℤ◌, ◌-ℤ◌, ◌*ℤ◌, ◌<ℤ◌, neg_ℤ, ℕ, ℤ, pos, Bool, true, false, length, unsigned_abs, IsTrue, IfSome, IfNone};
 ghost use Rattle.std.specs.List.{list_all};
 ghost use Rattle.ft_base.specs.Interval.{IsWithin};
 ghost use Rattle.ft_base.specs.Division.{floor_of};
-ghost use Rattle.ft_linear.specs.Bounds.{line_most, line_product_most, line_sum_most, times_most};
-ghost use Rattle.ft_linear.specs.Form.{InArea, span_at};
-ghost use Rattle.ft_linear.specs.Marks.{AreFor, AreJudged};
-ghost use Rattle.ft_linear.specs.Rules.{Contradicts, HoldsForced, Tightens, are_lines, factors_in, is_line, line_form, narrowed, down_to, up_to, total_constant, total_factor};
-ghost use Rattle.ft_linear.specs.Cancelling.{is_kept, is_cancelled, are_cancelled};
+ghost use Rattle.ft_linear.specs.meaning.Bounds.{times_most};
+ghost use Rattle.ft_linear.specs.summing.Sizes.{line_most, line_product_most, line_sum_most, product_most, sum_most};
+ghost use Rattle.ft_linear.specs.meaning.Form.{HasUnknowns, InArea, least, span_at};
+ghost use Rattle.ft_linear.specs.meaning.Marks.{AreFor, AreJudged};
+ghost use Rattle.ft_linear.specs.meaning.Rules.{Contradicts, HoldsForced, Tightens, are_lines, factors_in, is_line, line_form, literal_form, narrowed, down_to, up_to, total_constant, total_factor};
+ghost use Rattle.ft_linear.specs.meaning.Halving.{single_span};
+ghost use Rattle.ft_linear.specs.summing.Cancelling.{is_kept, is_cancelled, are_cancelled};
 
 use crate::formula::Formula;
-use crate::lines::{Line, are_lines, line_constant, line_factor, times_of};
+use crate::lin::Lin;
+use crate::lines::{
+    Line, are_lines, factor_of, line_constant, line_factor, literal_constant, literal_factor,
+    times_of,
+};
 use crate::marks::Marks;
 use crate::part::Part;
+use crate::sums::{least_of, lowest, most_of};
 use ft_base::Span;
 
 /// A number of a line as many times as the line is taken.
@@ -248,5 +255,48 @@ pub fn tighten(
         total_factor(formula, part, lines, unknown),
         total_constant(formula, part, lines),
         spans[unknown as usize],
+    )
+}
+
+/// The least value of the factors of a literal's form over an area.
+fn least_of_literal(form: &Lin, value: bool, spans: &[Span]) -> i128
+    requires { HasUnknowns (length spans.now) form.now.factors }
+    ensures value { result ≡ least spans.now (literal_form value form.now).factors }
+    ensures small { unsigned_abs result ≤ sum_most }
+{
+    if value {
+        least_of(form.factors(), spans)
+    } else {
+        opposite(most_of(form.factors(), spans))
+    }
+}
+
+/// A constant with the least values of the others, where one of all has this least value.
+fn with_others(constant: i64, all: i128, one: i128) -> i128
+    requires constant { unsigned_abs constant ≤ line_most }
+    requires all { unsigned_abs all ≤ sum_most }
+    requires one { unsigned_abs one ≤ product_most }
+    ensures value { result ≡ constant +ℤ (all -ℤ one) }
+    ensures small { unsigned_abs result ≤ line_sum_most }
+{
+    i128::from(constant) + (all - one)
+}
+
+/// The span that the line of a single literal leaves an unknown, with the bounds that cancel its other unknowns, each as many
+/// times as its factor. None exactly where the span is empty or no smaller. It is made by one pass over the form; the law
+/// `sum_laws` says that `tighten` gives it for these lines.
+pub fn single_span(form: &Lin, value: bool, spans: &[Span], unknown: u32) -> Option<Span>
+    requires over { HasUnknowns (length spans.now) form.now.factors }
+    requires unknown { unknown < length spans.now }
+    ensures { result ≡ single_span spans.now unknown (literal_form value form.now) }
+{
+    let span = spans[unknown as usize];
+    let factor = literal_factor(value, factor_of(form.factors(), unknown));
+    let constant = literal_constant(value, form.constant());
+    let least = least_of_literal(form, value, spans);
+    narrowed(
+        i128::from(factor),
+        with_others(constant, least, lowest(factor, span)),
+        span,
     )
 }

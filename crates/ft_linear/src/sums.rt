@@ -2,8 +2,8 @@
 // 10,000 factors is far inside an i128.
 
 ghost use Rattle.std.specs.Prelude.{◌≡◌, ◌≤◌, ◌<◌, ◌+◌, ◌*◌, ◌+ℤ◌, ◌*ℤ◌, length, unsigned_abs, All};
-ghost use Rattle.ft_linear.specs.Bounds.{product_most, sum_most};
-ghost use Rattle.ft_linear.specs.Form.{IsSmall, AreRising, HasUnknowns, values_at, sum_at, most, least, high_end, low_end};
+ghost use Rattle.ft_linear.specs.summing.Sizes.{product_most, sum_most};
+ghost use Rattle.ft_linear.specs.meaning.Form.{IsSmall, AreRising, HasUnknowns, values_at, sum_at, most, least, high_end, low_end};
 
 use ft_base::Span;
 
@@ -51,7 +51,7 @@ fn highest(factor: i64, span: Span) -> i128
 }
 
 /// The factor times the end of the span that makes it least.
-fn lowest(factor: i64, span: Span) -> i128
+pub fn lowest(factor: i64, span: Span) -> i128
     requires { IsSmall factor }
     ensures value { result ≡ low_end factor span }
     ensures small { unsigned_abs result ≤ product_most }

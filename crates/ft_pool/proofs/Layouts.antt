@@ -8,7 +8,7 @@ use prog.Memory.{size, align, capped}
 use prog.Capped.{capped_is}
 use prog.RawLaws.{size-raw, align-raw}
 use Rattle.std.proofs.mem.Param.{El, R, elτ}
-use Rattle.ft_pool.specs.Ownership.{block_of}
+use Rattle.ft_pool.specs.block.Ownership.{block_of}
 use Rattle.ft_pool.proofs.Memory.{bytes}
 
 -- the product with a size, where it fits a word

@@ -18,8 +18,8 @@ use Rattle.std.specs.Prelude.{Some, slice_get}
 use Rattle.std.specs.Mem.{type_size}
 use Rattle.std.proofs.mem.Param.{El, R, el_x, elτ, Good}
 use Rattle.std.proofs.slice.Rows.{el_out, el_in}
-use Rattle.ft_pool.specs.Places.{put_at}
-use Rattle.ft_pool.specs.Ownership.{block_of, places, values_lent}
+use Rattle.ft_pool.specs.block.Places.{put_at}
+use Rattle.ft_pool.specs.block.Ownership.{block_of, places, values_lent}
 
 module _ (E : El) where
   abbrev pub bytes : ℕ

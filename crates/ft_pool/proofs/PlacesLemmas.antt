@@ -1,8 +1,9 @@
--- A list with one value put into a place.
-use Rattle.std.proofs.Common.{◌≡◌, ℕ, zero, suc, ◌+◌, ◌<◌, ◌≤◌, List, [], ◌∷◌, ◌++◌, length, take, refl, ap, ◌∙◌, arith}
-use Rattle.std.specs.Prelude.{slice_set}
-use Rattle.std.proofs.lemmas.List.{length-take-le}
-use Rattle.ft_pool.specs.Places.{put_at}
+-- A list with one value put into a place, and without its last.
+use Rattle.std.proofs.Common.{◌≡◌, ℕ, zero, suc, ◌+◌, ◌-◌, ◌<◌, ◌≤◌, List, [], ◌∷◌, ◌++◌, length, take, refl, sym, ap, subst, ◌∙◌, Some, slice_get, arith}
+use Rattle.std.specs.Prelude.{slice_index_or, slice_set}
+use Rattle.std.proofs.lemmas.List.{get_or-take, length-take-le, take_more}
+use Rattle.std.proofs.lemmas.Option.{get_or_from_slice_get, slice_get_within}
+use Rattle.ft_pool.specs.block.Places.{put_at}
 
 one_more : (n : ℕ) → n + 1 ≡ suc n
 one_more n = omega arith
@@ -56,3 +57,14 @@ module _ {X : Type 0} where
   put_at-counts_on xs n x near = length-take-le (n + 1) (put_at xs n x) (put_at-reaches xs n x near)
 
 pub ruleset puts = (put_at-keeps, put_at-reaches, put_at-adds, put_at-sets, put_at-counts, put_at-counts_on, length-take-le)
+
+-- the last value, and those before it
+pub split_last : {X : Type 0} (xs items : List X) (n : ℕ) (x : X) → n ≤ length xs → items ≡ take n xs → slice_get items (length items - 1) ≡ Some x → items ≡ take (n - 1) xs ++ x ∷ []
+split_last {X = X} xs items n x small is got =
+    let long : length items ≡ n = ap length is ∙ length-take-le n xs small in
+    let some = slice_get_within items (length items - 1) x got in
+    let more : n - 1 + 1 ≡ n = omega (arith, long, some) in
+    let at : slice_get items (n - 1) ≡ Some x = subst (λ (k : ℕ). slice_get items (k - 1) ≡ Some x) long got in
+    let value : slice_index_or xs (n - 1) x ≡ x =
+    sym (get_or-take n xs (n - 1) x (omega (arith, more))) ∙ ap (λ (l : List X). slice_index_or l (n - 1) x) (sym is) ∙ get_or_from_slice_get items (n - 1) x x at in
+    is ∙ ap (λ (k : ℕ). take k xs) (sym more) ∙ take_more xs (n - 1) x (omega (arith, more, small)) ∙ ap (λ (y : X). take (n - 1) xs ++ y ∷ []) value

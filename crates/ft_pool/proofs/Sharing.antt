@@ -15,7 +15,7 @@ use denote.Sharing.{ShrLaws, said}
 use denote.SharingLaws.{beside_shr_laws, nothing_shr_laws, said_shr_laws}
 use denote.Shares.{Shares-less}
 use denote.Struct.Lending.{Lends, Lends-both, Lends-first, Lends-nothing, Lends-said, Lends-false}
-use Rattle.ft_pool.specs.Ownership.{block_of, places, values_lent, short, cells_own, cells_lent}
+use Rattle.ft_pool.specs.block.Ownership.{block_of, places, values_lent, short, cells_own, cells_lent}
 
 module _ (R : RattleType) (L : RowLaws R) where
   values_lent_laws : (b o : ℕ) (xs : List R.Denot) → ShrLaws (values_lent R b o xs)

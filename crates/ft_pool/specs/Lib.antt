@@ -1,4 +1,3 @@
+pub mod block
 pub mod formers
-pub mod Ownership
-pub mod Places
-pub mod Region
+pub mod meaning

@@ -4,8 +4,8 @@ ghost use Rattle.std.specs.Mem.{type_size};
 ghost use Rattle.std.specs.Vec.Ownership.{FitsInBlock};
 ghost use denote.RawPtr.{Ptr};
 ghost use prog.Memory.{capped};
-ghost use Rattle.ft_pool.specs.Places.{put_at};
-ghost use Rattle.ft_pool.specs.Ownership.{cells_own, cells_lent};
+ghost use Rattle.ft_pool.specs.block.Places.{put_at};
+ghost use Rattle.ft_pool.specs.block.Ownership.{cells_own, cells_lent};
 
 use std::alloc::{AllocError, Allocator};
 use std::marker::{Model, PhantomData};

@@ -1,6 +1,6 @@
 //! The region. The functions of `block` alone touch its memory.
-ghost use Rattle.std.specs.Prelude.{◌≡◌, ◌+◌, ◌-◌, ◌<◌, ◌≤◌, [], ◌∷◌, ◌++◌, length, slice_get, slice_set, take, Some, IfOk};
-ghost use Rattle.ft_pool.specs.Region.{region};
+ghost use Rattle.std.specs.Prelude.{◌≡◌, ◌+◌, ◌-◌, ◌<◌, ◌≤◌, [], ◌∷◌, ◌++◌, length, slice_get, slice_set, take, Some, IfNone, IfOk, IfSome};
+ghost use Rattle.ft_pool.specs.meaning.Region.{region};
 
 use crate::block::{Cells, Start, fits_block};
 use crate::id::{Id, Mark};
@@ -20,7 +20,7 @@ pub struct Pool<T> {
 
 impl<T> Model for Pool<T> {
     ghost use Rattle.std.specs.Prelude.{◌≡◌, ◌-◌, ◌≤◌, length, take};
-    ghost use Rattle.ft_pool.specs.Region.{Region, region, region_code};
+    ghost use Rattle.ft_pool.specs.meaning.Region.{Region, region, region_code};
 
     ghost Value = { Region T };
 
@@ -71,6 +71,36 @@ impl<T: Copy> Pool<T> {
         ensures { slice_get self.now.items id ≡ Some result }
     {
         *self.cells.get(self.start, id.number())
+    }
+
+    /// The id of the value at this place, from 0 in the order in which values were added.
+    pub fn id(&self, place: usize) -> Id<T>
+        requires { place < length self.now.items }
+        ensures { result ≡ place }
+    {
+        Id::new(place)
+    }
+
+    /// The last value. None exactly where there is none.
+    pub fn last(&self) -> Option<T>
+        ensures some { IfSome result (λ item. slice_get self.now.items (length self.now.items - 1) ≡ Some item) }
+        ensures none { IfNone result (self.now.items ≡ []) }
+    {
+        if self.len == 0 {
+            return None;
+        }
+        Some(*self.cells.get(self.start, self.len - 1))
+    }
+
+    /// Takes the last value off, and gives its room back. None exactly where there is none; the region is then as it was.
+    pub fn pop(&mut self) -> Option<T>
+        ensures some { IfSome result (λ item. self.old.items ≡ self.new.items ++ item ∷ []) }
+        ensures none { IfNone result ((self.old.items ≡ []) × (self.new.items ≡ [])) }
+        ensures room { length self.new.items + self.new.spare ≡ length self.old.items + self.old.spare }
+    {
+        let item = self.last()?;
+        self.len -= 1;
+        Some(item)
     }
 
     /// Puts a value in the place of the one with this id. The others stay.

@@ -1,12 +1,12 @@
 ghost use Rattle.std.specs.Prelude.{◌≡◌, ◌<◌, length, IfOk};
-ghost use Rattle.ft_linear.specs.Formula.{IsOver};
-ghost use Rattle.ft_linear.specs.Marks.{AreFor, AreJudged};
+ghost use Rattle.ft_linear.specs.meaning.Formula.{IsOver};
+ghost use Rattle.ft_linear.specs.meaning.Marks.{AreFor, AreJudged};
 
 use ft_base::{Boxed, List, NoMemory, Span, Three};
 use ft_linear::{
-    Area, Formula, Lin, Line, Marks, Node, Part, Raw, contradict, evaluate, is_moderate, judge,
-    settle, tighten,
+    Area, Formula, Lin, Line, Marks, Node, Part, contradict, evaluate, judge, tighten,
 };
+use ft_settle::{Raw, is_moderate, settle};
 use std::alloc::Global;
 use std::test::Fail;
 

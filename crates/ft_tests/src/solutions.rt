@@ -1,5 +1,5 @@
 ghost use Rattle.std.specs.Prelude.{◌≡◌, length, All, IsTrue, IfOk};
-ghost use Rattle.ft_diff.specs.Differences.{HasUnknown, IsOver};
+ghost use Rattle.ft_diff.specs.meaning.Differences.{HasUnknown, IsOver};
 
 use ft_base::{List, NoMemory, Span};
 use ft_diff::{Diff, DiffRoom, differences};

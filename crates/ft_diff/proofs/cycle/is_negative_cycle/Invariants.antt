@@ -1,6 +1,6 @@
 use Rattle.std.proofs.Common.{◌≤◌, ◌*◌, ℕ, ℤ, ◌+ℤ◌, ◌≤ℤ◌, All}
 use Rattle.std.specs.Prelude.{unsigned_abs}
-use Rattle.ft_diff.specs.Differences.{Meets, difference_most}
+use Rattle.ft_diff.specs.meaning.Differences.{Meets, difference_most}
 use Rattle.ft_diff.proofs.cycle.is_negative_cycle.Given as goal
 
 -- every solution keeps the first number within this total of the one that is reached

@@ -1,7 +1,7 @@
 use Rattle.std.proofs.Common.{◌≡◌, false, take, All}
-use Rattle.ft_linear.specs.Form.{InArea}
-use Rattle.ft_diff.specs.Differences.{Meets}
-use Rattle.ft_diff.specs.Narrowing.{HasOutcome, highs, is_barred}
+use Rattle.ft_linear.specs.meaning.Form.{InArea}
+use Rattle.ft_diff.specs.meaning.Differences.{Meets}
+use Rattle.ft_diff.specs.narrowing.Outcome.{HasOutcome, highs, is_barred}
 use Rattle.ft_diff.proofs.narrowing.round.Given as goal
 
 -- the lines before this one are done

@@ -1,5 +1,5 @@
 use Rattle.std.proofs.Common.{arith}
-use Rattle.ft_diff.specs.Narrowing.{highs}
+use Rattle.ft_diff.specs.narrowing.Outcome.{highs}
 use Rattle.ft_diff.proofs.NarrowingLemmas.{in-area, one-written, one-within}
 use Rattle.ft_diff.proofs.solving.begin.Goals as goal
 

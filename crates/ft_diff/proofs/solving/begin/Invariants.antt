@@ -1,7 +1,7 @@
 use Rattle.std.proofs.Common.{◌≡◌, ◌<◌, ℕ, take}
 use Rattle.ft_base.specs.Interval.{IsWithin}
-use Rattle.ft_linear.specs.Form.{span_at}
-use Rattle.ft_diff.specs.Narrowing.{highs}
+use Rattle.ft_linear.specs.meaning.Form.{span_at}
+use Rattle.ft_diff.specs.narrowing.Outcome.{highs}
 use Rattle.ft_diff.proofs.solving.begin.Given as goal
 
 -- the spans before this one are written

@@ -1,7 +1,7 @@
 use Rattle.std.proofs.Common.{◌∙◌, sym, subst, ℤ, List, length}
 use Rattle.std.proofs.lemmas.List.{with_items_is}
-use Rattle.ft_diff.specs.Differences.{IsSolution, IsUnder}
-use Rattle.ft_diff.specs.Narrowing.{highs}
+use Rattle.ft_diff.specs.meaning.Differences.{IsSolution, IsUnder}
+use Rattle.ft_diff.specs.narrowing.Outcome.{highs}
 use Rattle.ft_diff.proofs.NarrowingLemmas.{by-values}
 use Rattle.ft_diff.proofs.solving.differences.Goals as goal
 

@@ -1,7 +1,7 @@
 use Rattle.std.proofs.Common.{arith, ap, sym, subst, ◌≤ℤ◌, ℤ, List, length, All}
-use Rattle.ft_linear.specs.Form.{InArea}
-use Rattle.ft_diff.specs.Differences.{Meets}
-use Rattle.ft_diff.specs.Narrowing.{highs}
+use Rattle.ft_linear.specs.meaning.Form.{InArea}
+use Rattle.ft_diff.specs.meaning.Differences.{Meets}
+use Rattle.ft_diff.specs.narrowing.Outcome.{highs}
 use Rattle.ft_diff.proofs.NarrowingLemmas.{of-area}
 use Rattle.ft_diff.proofs.solving.solve.Goals as goal
 

@@ -1,7 +1,7 @@
 use Rattle.std.proofs.Common.{ℕ, ℤ, All}
-use Rattle.ft_linear.specs.Form.{InArea}
-use Rattle.ft_diff.specs.Differences.{Meets}
-use Rattle.ft_diff.specs.Narrowing.{highs, room_below}
+use Rattle.ft_linear.specs.meaning.Form.{InArea}
+use Rattle.ft_diff.specs.meaning.Differences.{Meets}
+use Rattle.ft_diff.specs.narrowing.Outcome.{highs, room_below}
 use Rattle.ft_diff.proofs.solving.solve.Given as goal
 
 -- the spans are a part of the area that has all its solutions

@@ -3,9 +3,9 @@ use Rattle.std.specs.List.{flat_map}
 use Rattle.ft_linear.specs.declared.node.Node.{the_lemmas}
 use Rattle.ft_linear.specs.declared.node.Node.TheVariants.{Not, And, Or}
 use Rattle.ft_base.specs.Three.{three_not}
-use Rattle.ft_linear.specs.Forced.{value_of}
-use Rattle.ft_linear.specs.Slots.{value_at, slots_of, only_of}
-use Rattle.ft_linear.proofs.NodeLemmas.{value-At, value-Not}
+use Rattle.ft_linear.specs.meaning.Forced.{value_of}
+use Rattle.ft_linear.specs.judging.Slots.{value_at, slots_of, only_of}
+use Rattle.ft_linear.specs.laws.Nodes.{value-At, value-Not}
 use Rattle.ft_linear.proofs.SlotLemmas.{room-At, room-Not, room-And, room-Or, closes, written-none, whole-At, whole-Not, whole-And, whole-Or, value-And-by, value-Or-by, only-And-by, only-Or-by, room-part}
 use Rattle.ft_linear.proofs.forcing.+evaluate_up.Goals as goal
 

@@ -1,9 +1,9 @@
 use Rattle.std.proofs.Common.{◌≡◌, take, map, length}
 use Rattle.std.specs.Prelude.{count_by}
 use Rattle.std.specs.List.{flat_map}
-use Rattle.ft_linear.specs.Forced.{value_of}
+use Rattle.ft_linear.specs.meaning.Forced.{value_of}
 use Rattle.ft_base.specs.Three.{is_no, is_yes}
-use Rattle.ft_linear.specs.Slots.{value_at, slots_of, IsWritten}
+use Rattle.ft_linear.specs.judging.Slots.{value_at, slots_of, IsWritten}
 use Rattle.ft_linear.proofs.forcing.+evaluate_up.Given as goal
 
 -- the parts before this one have their slots

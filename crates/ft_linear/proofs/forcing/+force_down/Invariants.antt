@@ -1,8 +1,8 @@
 use Rattle.std.proofs.Common.{take, drop, map, ◌&&◌, ◌||◌}
 use Rattle.std.specs.List.{flat_map, list_any}
-use Rattle.ft_linear.specs.Forced.{seen}
+use Rattle.ft_linear.specs.meaning.Forced.{seen}
 use Rattle.ft_base.specs.Three.{can_be}
-use Rattle.ft_linear.specs.Slots.{value_at, slots_of, StartsWith, Adds}
+use Rattle.ft_linear.specs.judging.Slots.{value_at, slots_of, StartsWith, Adds}
 use Rattle.ft_linear.proofs.forcing.+force_down.Given as goal
 
 -- the slots of this part and those after it are left, and the literals of those before it are added

@@ -1,5 +1,5 @@
 use Rattle.std.proofs.Common.{ap, not}
-use Rattle.ft_linear.proofs.NodeLemmas.{truth-At, truth-Not, truth-And, truth-Or}
+use Rattle.ft_linear.specs.laws.Nodes.{truth-At, truth-Not, truth-And, truth-Or}
 use Rattle.ft_linear.proofs.formula.+evaluate.Goals as goal
 
 pub node_true-returns-in-At : goal.node_true-returns-in-At

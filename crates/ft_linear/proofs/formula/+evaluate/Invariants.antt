@@ -1,8 +1,8 @@
 use Rattle.std.proofs.Common.{◌≡◌, true, false, take}
 use Rattle.std.specs.List.{list_all, list_any}
-use Rattle.ft_linear.specs.Form.{values_at}
-use Rattle.ft_linear.specs.Formula.{atom_at}
-use Rattle.ft_linear.specs.Truth.{truth}
+use Rattle.ft_linear.specs.meaning.Form.{values_at}
+use Rattle.ft_linear.specs.meaning.Formula.{atom_at}
+use Rattle.ft_linear.specs.meaning.Truth.{truth}
 use Rattle.ft_linear.proofs.formula.+evaluate.Given as goal
 
 abbrev pub invariant-all_true-loop-part : goal.invariant-all_true-loop-part

@@ -2,7 +2,7 @@ use Rattle.std.proofs.Common.{◌∙◌, sym, subst, refl, arith}
 use Rattle.std.proofs.lemmas.List.{take_all}
 use Rattle.std.proofs.lemmas.List.Elements.{All-nil, All-more}
 use Rattle.std.specs.Prelude.{All}
-use Rattle.ft_linear.specs.Form.{LinView, HasUnknowns}
+use Rattle.ft_linear.specs.meaning.Form.{LinView, HasUnknowns}
 use Rattle.ft_linear.proofs.formula.are_over.Goals as goal
 
 pub loop-form-init : goal.loop-form-init

@@ -1,7 +1,7 @@
 use Rattle.std.proofs.Common.{◌∙◌, ap, refl, arith, length, slice_set}
 use Rattle.std.proofs.lemmas.Option.{slice_get_read}
-use Rattle.ft_linear.specs.Part.{atom_value, value_by, is_against, is_agreed, against, agrees}
-use Rattle.ft_linear.specs.Marks.{decided_at, decided_signs}
+use Rattle.ft_linear.specs.meaning.Part.{atom_value, value_by, is_against, is_agreed, against, agrees}
+use Rattle.ft_linear.specs.judging.Weighing.{decided_at, decided_signs}
 use Rattle.ft_linear.proofs.MarksLemmas.{written-more, any-more, all-more, atom-read}
 use Rattle.ft_linear.proofs.judging.weigh.Goals as goal
 
@@ -18,6 +18,6 @@ atoms-preserved c =
     record {
       values = written-more (atom_value f p) c.atoms.values (slice_set c.atoms.values at c.value_by.result) at c.value_by.result (omega (arith, long)) refl (c.value_by.ensures ∙ (λ i. value_by (read.0 i) (read.1 i))) c.atoms.invariant.values;
       signs = written-more (decided_at p) c.atoms.signs (slice_set c.atoms.signs at c.decided_signs.result) at c.decided_signs.result (omega (arith, long)) refl (c.decided_signs.ensures ∙ ap decided_signs read.0) c.atoms.invariant.signs;
-      against = c.either-against.ensures ∙ any-more (is_against f p) at c.atoms.against c.is_against.result (c.is_against.ensures ∙ (λ i. against (read.0 i) (read.1 i))) c.atoms.invariant.against;
-      agreed = c.both-agreed.ensures ∙ all-more (is_agreed f p) at c.atoms.agreed c.is_agreed.result (c.is_agreed.ensures ∙ (λ i. agrees (read.0 i) (read.1 i))) c.atoms.invariant.agreed;
+      against = any-more (is_against f p) at c.atoms.against c.is_against-against.result (c.is_against-against.ensures ∙ (λ i. against (read.0 i) (read.1 i))) c.atoms.invariant.against;
+      agreed = all-more (is_agreed f p) at c.atoms.agreed c.is_agreed-agreed.result (c.is_agreed-agreed.ensures ∙ (λ i. agrees (read.0 i) (read.1 i))) c.atoms.invariant.agreed;
     }

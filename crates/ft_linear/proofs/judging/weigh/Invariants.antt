@@ -1,7 +1,7 @@
 use Rattle.std.proofs.Common.{◌≡◌, ◌<◌, ℕ, slice_get, Some}
 use Rattle.std.specs.List.{list_any, list_all, range_with_len}
-use Rattle.ft_linear.specs.Part.{atom_value, is_against, is_agreed}
-use Rattle.ft_linear.specs.Marks.{decided_at}
+use Rattle.ft_linear.specs.meaning.Part.{atom_value, is_against, is_agreed}
+use Rattle.ft_linear.specs.judging.Weighing.{decided_at}
 use Rattle.ft_linear.proofs.judging.weigh.Given as goal
 
 -- the atoms before this one are weighed

@@ -1,5 +1,5 @@
 use Rattle.std.proofs.Common.{◌↔◌, drop}
-use Rattle.ft_linear.specs.Form.{AreRising}
+use Rattle.ft_linear.specs.meaning.Form.{AreRising}
 use Rattle.ft_linear.proofs.lin.are_rising.Given as goal
 
 -- what is left decides

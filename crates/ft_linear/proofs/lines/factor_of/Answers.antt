@@ -1,6 +1,6 @@
 use Rattle.std.proofs.Common.{◌∙◌, sym, ap, pos, drop, slice_index_or}
-use Rattle.ft_linear.specs.Form.{Factor}
-use Rattle.ft_linear.specs.Rules.{factor_of}
+use Rattle.ft_linear.specs.meaning.Form.{Factor}
+use Rattle.ft_linear.specs.meaning.Rules.{factor_of}
 use Rattle.ft_linear.proofs.FormLemmas.{small-at, small-same, small-read}
 use Rattle.ft_linear.proofs.RuleLemmas.{first-found}
 use Rattle.ft_linear.proofs.lines.factor_of.Goals as goal

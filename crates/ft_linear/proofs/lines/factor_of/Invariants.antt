@@ -1,5 +1,5 @@
 use Rattle.std.proofs.Common.{◌≡◌, drop}
-use Rattle.ft_linear.specs.Rules.{factor_of}
+use Rattle.ft_linear.specs.meaning.Rules.{factor_of}
 use Rattle.ft_linear.proofs.lines.factor_of.Given as goal
 
 -- those before this one are of other unknowns

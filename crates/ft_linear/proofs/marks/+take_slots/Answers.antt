@@ -1,8 +1,8 @@
 use Rattle.std.proofs.Common.{◌≡◌, ◌∙◌, ap, sym, length, map, ◌+◌}
 use Rattle.std.specs.Prelude.{sum}
 use Rattle.std.proofs.lemmas.List.{length_push}
-use Rattle.ft_linear.specs.Marks.{size_of}
-use Rattle.ft_linear.proofs.NodeLemmas.{size-At, size-Not, size-And, size-Or}
+use Rattle.ft_linear.specs.meaning.Marks.{size_of}
+use Rattle.ft_linear.specs.laws.Nodes.{size-At, size-Not, size-And, size-Or}
 use Rattle.ft_linear.proofs.MarksLemmas.{OnOk_then, one-node}
 use Rattle.ft_linear.proofs.marks.+take_slots.Goals as goal
 

@@ -1,6 +1,6 @@
 use Rattle.std.proofs.Common.{◌≡◌, ◌+◌, length, map, take}
 use Rattle.std.specs.Prelude.{sum}
-use Rattle.ft_linear.specs.Marks.{size_of}
+use Rattle.ft_linear.specs.meaning.Marks.{size_of}
 use Rattle.ft_linear.proofs.marks.+take_slots.Given as goal
 
 abbrev pub invariant-take_all-loop-part : goal.invariant-take_all-loop-part

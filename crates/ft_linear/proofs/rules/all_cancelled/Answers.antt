@@ -3,8 +3,8 @@ use Rattle.std.proofs.lemmas.List.{take_all}
 use Rattle.std.specs.List.{list_all}
 use Rattle.ft_linear.specs.declared.lines.Line.{Line}
 use Rattle.ft_linear.specs.declared.lines.Line.TheVariants.{Atom}
-use Rattle.ft_linear.specs.Rules.{factors_in, line_form}
-use Rattle.ft_linear.specs.Cancelling.{are_cancelled}
+use Rattle.ft_linear.specs.meaning.Rules.{factors_in, line_form}
+use Rattle.ft_linear.specs.summing.Cancelling.{are_cancelled}
 use Rattle.ft_linear.proofs.RuleLemmas.{cancel, lines-cancelled}
 use Rattle.ft_linear.proofs.rules.all_cancelled.Goals as goal
 

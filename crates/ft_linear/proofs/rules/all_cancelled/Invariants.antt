@@ -1,7 +1,7 @@
 use Rattle.std.proofs.Common.{◌≡◌, true, take}
 use Rattle.std.specs.List.{list_all}
-use Rattle.ft_linear.specs.Rules.{factors_in, line_form}
-use Rattle.ft_linear.specs.Cancelling.{are_cancelled}
+use Rattle.ft_linear.specs.meaning.Rules.{factors_in, line_form}
+use Rattle.ft_linear.specs.summing.Cancelling.{are_cancelled}
 use Rattle.ft_linear.proofs.rules.all_cancelled.Given as goal
 
 abbrev pub invariant-loop-line : goal.invariant-loop-line

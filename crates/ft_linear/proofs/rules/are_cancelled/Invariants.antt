@@ -1,5 +1,5 @@
 use Rattle.std.proofs.Common.{◌≡◌, true, take}
-use Rattle.ft_linear.specs.Cancelling.{are_cancelled}
+use Rattle.ft_linear.specs.summing.Cancelling.{are_cancelled}
 use Rattle.ft_linear.proofs.rules.are_cancelled.Given as goal
 
 abbrev pub invariant-loop-factor : goal.invariant-loop-factor

@@ -1,5 +1,5 @@
 use Rattle.std.proofs.Common.{◌∙◌, ap}
-use Rattle.ft_linear.specs.Cancelling.{are_cancelled}
+use Rattle.ft_linear.specs.summing.Cancelling.{are_cancelled}
 use Rattle.ft_linear.proofs.RuleLemmas.{literal-cancelled}
 use Rattle.ft_linear.proofs.rules.line_cancelled.Goals as goal
 

@@ -2,7 +2,7 @@ use Rattle.std.proofs.Common.{rules, ◌∙◌, sym, ap, neg_ℤ, pos, ◌<ℤ�
 use Rattle.std.specs.Int.{w128}
 use Rattle.std.proofs.lemmas.Int.{ints, to_z-of_z}
 use Rattle.ft_base.specs.Division.{floor_of}
-use Rattle.ft_linear.specs.Rules.{up_to, down_to}
+use Rattle.ft_linear.specs.meaning.Rules.{up_to, down_to}
 use Rattle.ft_linear.proofs.RuleLemmas.{narrowed-up, narrowed-down}
 use mir.Val.{SFits}
 use Rattle.ft_linear.proofs.rules.narrowed.Goals as goal

@@ -2,8 +2,8 @@ use Rattle.std.proofs.Common.{rules, ◌∙◌, sym, arith, pos, length, ap}
 use Rattle.std.specs.Int.{w128}
 use Rattle.std.proofs.lemmas.Int.{to_z-of_z}
 use Rattle.std.proofs.lemmas.List.{get_or_read}
-use Rattle.ft_linear.specs.Form.{span_at}
-use Rattle.ft_linear.specs.Rules.{narrowed}
+use Rattle.ft_linear.specs.meaning.Form.{span_at}
+use Rattle.ft_linear.specs.meaning.Rules.{narrowed}
 use Rattle.ft_linear.proofs.PartLaws.{in-span}
 use Rattle.ft_linear.proofs.UnknownLemmas.{not-equal}
 use Rattle.ft_linear.proofs.RuleLemmas.{within-tightened, IfSome_each}

@@ -3,7 +3,7 @@ use Rattle.std.specs.Int.{w128}
 use Rattle.std.proofs.lemmas.Int.{to_z-of_z}
 use Rattle.ft_linear.specs.declared.lines.Line.{Line}
 use Rattle.ft_linear.specs.declared.lines.Line.TheVariants.{Atom}
-use Rattle.ft_linear.specs.Rules.{constant_in, line_form, times_of}
+use Rattle.ft_linear.specs.meaning.Rules.{constant_in, line_form, times_of}
 use Rattle.ft_linear.proofs.RuleLemmas.{constant-more}
 use mir.Val.{SFits}
 use Rattle.ft_linear.proofs.rules.total_constant.Goals as goal

@@ -1,7 +1,7 @@
 use Rattle.std.proofs.Common.{◌≡◌, ◌≤◌, ◌*◌, take}
 use Rattle.std.specs.Prelude.{unsigned_abs}
-use Rattle.ft_linear.specs.Bounds.{line_product_most}
-use Rattle.ft_linear.specs.Rules.{total_constant}
+use Rattle.ft_linear.specs.summing.Sizes.{line_product_most}
+use Rattle.ft_linear.specs.meaning.Rules.{total_constant}
 use Rattle.ft_linear.proofs.rules.total_constant.Given as goal
 
 abbrev pub invariant-lines : goal.invariant-lines

@@ -2,7 +2,7 @@ use Rattle.std.proofs.Common.{rules, ◌≡◌, ◌∙◌, sym, slice_index_or, 
 use Rattle.std.specs.Int.{w128}
 use Rattle.std.proofs.lemmas.Int.{to_z-of_z}
 use Rattle.std.proofs.lemmas.List.{get_or_read}
-use Rattle.ft_linear.specs.Form.{Factor, low_end, span_at}
+use Rattle.ft_linear.specs.meaning.Form.{Factor, low_end, span_at}
 use Rattle.ft_linear.proofs.FormLemmas.{small-at, small-same, small-read, least-more}
 use mir.Val.{SFits}
 use Rattle.ft_linear.proofs.sums.least_of.Goals as goal

@@ -1,7 +1,7 @@
 use Rattle.std.proofs.Common.{◌≡◌, ◌≤◌, ◌*◌, take}
 use Rattle.std.specs.Prelude.{unsigned_abs}
-use Rattle.ft_linear.specs.Bounds.{product_most}
-use Rattle.ft_linear.specs.Form.{most}
+use Rattle.ft_linear.specs.summing.Sizes.{product_most}
+use Rattle.ft_linear.specs.meaning.Form.{most}
 use Rattle.ft_linear.proofs.sums.most_of.Given as goal
 
 abbrev pub invariant-factors : goal.invariant-factors

@@ -1,7 +1,7 @@
 use Rattle.std.proofs.Common.{rules, ◌≡◌, ◌∙◌, sym, slice_index_or, pos, ◌+ℤ◌, ◌*ℤ◌}
 use Rattle.std.specs.Int.{w128}
 use Rattle.std.proofs.lemmas.Int.{to_z-of_z}
-use Rattle.ft_linear.specs.Form.{Factor, values_at}
+use Rattle.ft_linear.specs.meaning.Form.{Factor, values_at}
 use Rattle.ft_linear.proofs.FormLemmas.{small-at, small-same, small-read, sum-more}
 use mir.Val.{SFits}
 use Rattle.ft_linear.proofs.sums.sum_of.Goals as goal

@@ -2,7 +2,7 @@ use Rattle.std.proofs.Common.{arith, subst, None, pos, All}
 use Rattle.std.proofs.lemmas.List.{take_all}
 use Rattle.std.proofs.lemmas.List.Elements.{All-more}
 use Rattle.ft_diff.specs.declared.diff.Diff.{Diff}
-use Rattle.ft_diff.specs.Differences.{IsOver}
+use Rattle.ft_diff.specs.meaning.Differences.{IsOver}
 use Rattle.ft_tests.proofs.solutions.are_over.Goals as goal
 
 pub loop-line-preserved : goal.loop-line-preserved

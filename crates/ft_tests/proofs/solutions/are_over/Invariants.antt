@@ -1,5 +1,5 @@
 use Rattle.std.proofs.Common.{take, All}
-use Rattle.ft_diff.specs.Differences.{IsOver}
+use Rattle.ft_diff.specs.meaning.Differences.{IsOver}
 use Rattle.ft_tests.proofs.solutions.are_over.Given as goal
 
 -- the lines before this one are over the area

@@ -28,7 +28,7 @@ use Rattle.std.proofs.mem.Param.{El, R}
 use Rattle.std.proofs.ptr.Rows.{times_below, one_below}
 use Rattle.std.proofs.raw_atomic.Walks.{proved_at, leaves}
 use Rattle.std.proofs.VecSteps.Shapes.{after}
-use Rattle.ft_pool.specs.Ownership.{cells_lent}
+use Rattle.ft_pool.specs.block.Ownership.{cells_lent}
 use Rattle.ft_pool.proofs.Memory.{bytes, item_at, value_seen}
 use Rattle.ft_pool.proofs.Values.{args, Cells, Start, start_val, start_good, start_told}
 use Rattle.ft_pool.specs.contracts.block.Cells.get.{ended, clauses}

@@ -30,7 +30,7 @@ use Rattle.std.proofs.mem.Param.{El, R, elτ}
 use Rattle.std.proofs.raw_atomic.Walks.{proved_at, leaves}
 use Rattle.std.proofs.RawLayout.{as_raw}
 use Rattle.std.proofs.VecSteps.Shapes.{after}
-use Rattle.ft_pool.specs.Ownership.{block_of, cells_own}
+use Rattle.ft_pool.specs.block.Ownership.{block_of, cells_own}
 use Rattle.ft_pool.proofs.Layouts.{uncapped, block_size, block_align}
 use Rattle.ft_pool.proofs.Memory.{bytes, to_room}
 use Rattle.ft_pool.proofs.Values.{args, P, Cells, Start, start_val, start_good, start_told, mark_val, mark_told}

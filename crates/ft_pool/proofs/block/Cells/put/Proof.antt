@@ -25,8 +25,8 @@ use Rattle.std.proofs.mem.Param.{El, R, elτ, lawful, one}
 use Rattle.std.proofs.ptr.Rows.{times_below, one_below}
 use Rattle.std.proofs.raw_atomic.Walks.{proved_at, leaves}
 use Rattle.std.proofs.VecSteps.Shapes.{after}
-use Rattle.ft_pool.specs.Places.{put_at}
-use Rattle.ft_pool.specs.Ownership.{places, cells_own}
+use Rattle.ft_pool.specs.block.Places.{put_at}
+use Rattle.ft_pool.specs.block.Ownership.{places, cells_own}
 use Rattle.ft_pool.proofs.Memory.{bytes, besides, place_out, place_in}
 use Rattle.ft_pool.proofs.PlacesLemmas.{put_at-fits}
 use Rattle.ft_pool.proofs.Values.{args, Cells, Start, start_val, start_good, start_told}

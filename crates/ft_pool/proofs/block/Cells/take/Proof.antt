@@ -39,7 +39,7 @@ use Rattle.std.proofs.raw_atomic.Walks.{proved_at, leaves}
 use Rattle.std.proofs.RcSteps.{first_Good}
 use Rattle.std.proofs.ResultValues.{ok_of, err_of}
 use Rattle.std.proofs.VecSteps.Shapes.{after, head, arm_body}
-use Rattle.ft_pool.specs.Ownership.{block_of}
+use Rattle.ft_pool.specs.block.Ownership.{block_of}
 use Rattle.ft_pool.proofs.Layouts.{uncapped, block_size, block_align}
 use Rattle.ft_pool.proofs.Memory.{bytes}
 use Rattle.ft_pool.proofs.Values.{args, P, Cells, Mark, Start, start_val, start_good, start_made, mark_val, mark_made, Taken, taken_val, taken_made}

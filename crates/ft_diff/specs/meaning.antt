@@ -1,0 +1,2 @@
+-- What solves differences.
+pub mod Differences

@@ -1,0 +1,2 @@
+-- What lines leave of spans, step by step.
+pub mod Outcome

@@ -1,6 +1,0 @@
-use Rattle.std.proofs.Common.{take}
-use Rattle.ft_linear.proofs.CanonicalLemmas.{IsDivisor}
-use Rattle.ft_linear.proofs.canonical.gcd_of.Given as goal
-
-abbrev pub invariant-loop-factor : goal.invariant-loop-factor
-invariant-loop-factor l = IsDivisor l.divisor (take l.factor-index l.factors)

@@ -1,0 +1,3 @@
+-- What the sum of lines is computed by.
+pub mod Cancelling
+pub mod Sizes

@@ -1,0 +1,5 @@
+pub mod AtomLemmas
+pub mod CanonicalLemmas
+pub mod OccurrenceLemmas
+pub mod RawLemmas
+pub mod SettleLemmas

@@ -1,0 +1,2 @@
+-- What the steps of settling compute with.
+pub mod Factors

@@ -1,0 +1,9 @@
+//! From a formula as it is built to a settled one, whose atoms are canonical and each there once.
+#![tactic(auto)]
+
+mod canonical;
+mod raw;
+mod settling;
+
+pub use raw::Raw;
+pub use settling::{is_moderate, settle};
