@@ -1,5 +1,6 @@
 -- The floor and the ceiling of a quotient.
-use Rattle.std.proofs.Common.{◌≡◌, ◌∙◌, sym, ap, subst, ℕ, zero, suc, ◌+◌, ◌*◌, ◌/◌, ◌^◌, ◌<◌, ◌≤◌, ℤ, pos, negsuc, ◌+ℤ◌, ◌-ℤ◌, ◌*ℤ◌, ◌≤ℤ◌, ◌<ℤ◌, w64, arith}
+use Rattle.std.proofs.Common.{◌≡◌, ◌∙◌, sym, ap, subst, ℕ, zero, suc, ◌+◌, ◌*◌, ◌/◌, ◌^◌, ◌<◌, ◌≤◌, ℤ, pos, negsuc, ◌+ℤ◌, ◌-ℤ◌, ◌*ℤ◌, ◌≤ℤ◌}
+use Rattle.std.proofs.Common.{◌<ℤ◌, w64, arith}
 use Rattle.std.specs.Int.{int_div_euclid, int_rem_euclid}
 use Rattle.std.proofs.lemmas.Int.{ints, by_lt_z, fits_signed_from_abs}
 use Rattle.std.specs.Prelude.{FitsSigned, unsigned_abs}
@@ -54,13 +55,16 @@ floor-at a k q h is = subst (IsFloor a k) (sym is) (floor-is a k h)
 -- with no rest the quotient is the ceiling
 pub ceiling-whole : (a k q r : ℤ) → pos 0 <ℤ k → q ≡ int_div_euclid a k → r ≡ int_rem_euclid a k → r ≡ pos 0 → IsCeiling a k q
 ceiling-whole a k q r h is rest none =
-    let whole : a ≡ (k *ℤ q) +ℤ r = rest-of a k h ∙ ap (λ x. (k *ℤ x) +ℤ int_rem_euclid a k) (sym is) ∙ ap (λ x. (k *ℤ q) +ℤ x) (sym rest) in
+    let whole : a ≡ (k *ℤ q) +ℤ r = rest-of a k h ∙ ap (λ x. (k *ℤ x) +ℤ int_rem_euclid a k) (sym is)
+    ∙ ap (λ x. (k *ℤ q) +ℤ x) (sym rest) in
     record { low = omega (arith, ints); high = omega (arith, ints) }
 
 -- with a rest the next number is
-pub ceiling-next : (a k q r : ℤ) → pos 0 <ℤ k → q ≡ int_div_euclid a k → r ≡ int_rem_euclid a k → pos 0 <ℤ r → r <ℤ k → IsCeiling a k (q +ℤ pos 1)
+pub ceiling-next : (a k q r : ℤ) → pos 0 <ℤ k → q ≡ int_div_euclid a k → r ≡ int_rem_euclid a k → pos 0 <ℤ r → r <ℤ k
+    → IsCeiling a k (q +ℤ pos 1)
 ceiling-next a k q r h is rest some less =
-    let whole : a ≡ (k *ℤ q) +ℤ r = rest-of a k h ∙ ap (λ x. (k *ℤ x) +ℤ int_rem_euclid a k) (sym is) ∙ ap (λ x. (k *ℤ q) +ℤ x) (sym rest) in
+    let whole : a ≡ (k *ℤ q) +ℤ r = rest-of a k h ∙ ap (λ x. (k *ℤ x) +ℤ int_rem_euclid a k) (sym is)
+    ∙ ap (λ x. (k *ℤ q) +ℤ x) (sym rest) in
     let next : k *ℤ (q +ℤ pos 1) ≡ (k *ℤ q) +ℤ k = times_next_z k q h in
     record { low = omega (arith, ints); high = omega (arith, ints) }
 
@@ -79,6 +83,7 @@ next_at (negsuc a) (pos k) h some fits =
 next_at (pos a) (negsuc k) h some fits = absurd (omega (arith, ints))
 next_at (negsuc a) (negsuc k) h some fits = absurd (omega (arith, ints))
 
-pub next-fits : (a k q r : ℤ) → pos 0 <ℤ k → q ≡ int_div_euclid a k → r ≡ int_rem_euclid a k → pos 0 <ℤ r → FitsSigned w64 a → FitsSigned w64 (q +ℤ pos 1)
+pub next-fits : (a k q r : ℤ) → pos 0 <ℤ k → q ≡ int_div_euclid a k → r ≡ int_rem_euclid a k → pos 0 <ℤ r → FitsSigned w64 a
+    → FitsSigned w64 (q +ℤ pos 1)
 next-fits a k q r h is rest some fits =
     subst (λ x. FitsSigned w64 (x +ℤ pos 1)) (sym is) (next_at a k h (subst (λ x. pos 0 <ℤ x) rest some) fits)

@@ -1,5 +1,6 @@
 -- What comes of a command is an outcome, and what an outcome with each status is.
-use Rattle.std.proofs.Common.{◌≡◌, ◌⊎◌, inl, inr, ◌∙◌, ap, sym, refl, subst, ℕ, ◌<◌, ◌≤◌, Bool, true, false, List, [], ◌∷◌, Option, Some, None, IfSome, if◌then◌else◌, codes, arith, rules}
+use Rattle.std.proofs.Common.{◌≡◌, ◌⊎◌, inl, inr, ◌∙◌, ap, sym, refl, subst, ℕ, ◌<◌, ◌≤◌, Bool, true, false, List, [], ◌∷◌, Option, Some}
+use Rattle.std.proofs.Common.{None, IfSome, if◌then◌else◌, codes, arith, rules}
 use Rattle.std.specs.Prelude.{Err}
 use Rattle.std.specs.List.{Contains}
 use Rattle.std.specs.Option.{option_map}
@@ -22,7 +23,9 @@ use Rattle.ft_small.specs.meaning.Laws.{SpellsOneSet}
 use Rattle.ft_small.specs.meaning.Finding.{HasPoints}
 use Rattle.ft_cli.specs.meaning.Judgement.{IsJudgement, IsPrint}
 use Rattle.ft_cli.specs.meaning.Report.{status_of}
-use Rattle.ft_cli.specs.Top.{Command, verify, print, file_of, Names, NoOthers, set_limit, Use, IsRead, CanBeRead, NamesKnown, HasRefutation, Means, IsOutcome, usage, read_fault, too_long, no_memory, content, HasStatus, HasHeadline, CanBeJudged, CanBePrinted, IsVerdictOn, IsComplete, PrintsAll}
+use Rattle.ft_cli.specs.Top.{Command, verify, print, file_of, Names, NoOthers, set_limit, Use, IsRead, CanBeRead, NamesKnown, HasRefutation}
+use Rattle.ft_cli.specs.Top.{Means, IsOutcome, usage, read_fault, too_long, no_memory, content, HasStatus, HasHeadline, CanBeJudged}
+use Rattle.ft_cli.specs.Top.{CanBePrinted, IsVerdictOn, IsComplete, PrintsAll}
 use Rattle.ft_cli.specs.stages.Command.{report_on_error, report_on_fault}
 use Rattle.ft_cli.specs.declared.report.Report.{Report}
 use Rattle.ft_cli.specs.declared.report.Report.TheVariants as report

@@ -59,7 +59,14 @@ pub record Use : Type 0 where
 abbrev pub use_of : (content : List ℕ → Option (List ℕ)) → (reads : List ℕ → List Read) → (faults_before faults_now reach : List ℕ → ℕ)
     → List ℕ → Use
 use_of content reads faults_before faults_now reach name =
-    record { content = content name; reads = reads name; faults_before = faults_before name; faults_now = faults_now name; reach = reach name }
+    record {
+      content = content name;
+      reads = reads name;
+      faults_before = faults_before name;
+      faults_now = faults_now name;
+      reach =
+          reach name;
+    }
 
 -- the bytes are all that the file gave up to its end, and all of the told file
 abbrev pub IsRead : Use → List ℕ → Type 0

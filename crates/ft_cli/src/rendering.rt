@@ -3,7 +3,8 @@ ghost use Rattle.std.specs.List.{flat_map, join_with_byte};
 ghost use Rattle.std.specs.Fmt.{decimal, signed_decimal};
 ghost use Rattle.ft_core.specs.declared.tables.VarKind.TheVariants.{Mon};
 ghost use Rattle.ft_core.specs.meaning.Kinds.{same_kind};
-ghost use Rattle.ft_cli.specs.meaning.Report.{line, obligations, set_line, trace_text, which_word, text_of, status_of, place_text, limit_word, fault_text};
+ghost use Rattle.ft_cli.specs.meaning.Report.{line, obligations, set_line, trace_text, which_word, text_of, status_of, place_text};
+ghost use Rattle.ft_cli.specs.meaning.Report.{limit_word, fault_text};
 
 use crate::report::{Report, Which};
 use ft_base::{List, NoMemory, Place, Text};
@@ -36,7 +37,8 @@ fn add_value(alloc: Global, text: &mut Text, value: i64) -> Result<(), NoMemory>
 
 /// The names of the monitored variables.
 fn monitored_names(alloc: Global, variables: &[Var]) -> Result<Vec<&[u8]>, NoMemory>
-    ensures { IfOk result (λ names. map (λ name. name.now) names.items ≡ map (λ v. v.name) (filter (λ v. same_kind Mon v.kind) variables.now)) }
+    ensures { IfOk result (λ names. map (λ name. name.now) names.items
+        ≡ map (λ v. v.name) (filter (λ v. same_kind Mon v.kind) variables.now)) }
 {
     let mut names = Vec::new(alloc);
     for variable in variables {

@@ -3,7 +3,8 @@ ghost use Rattle.std.specs.List.{Contains};
 ghost use Rattle.ft_port.specs.Causes.{one_more};
 ghost use Rattle.ft_cli.specs.meaning.Judgement.{IsPrint};
 ghost use Rattle.ft_cli.specs.meaning.Report.{text_of};
-ghost use Rattle.ft_cli.specs.Top.{command_of, file_of, use_of, verify, Means, NamesKnown, NoOthers, PrintsAll, IsOutcome, HasStatus, Writes, HasHeadline, HasRefutation, IsComplete};
+ghost use Rattle.ft_cli.specs.Top.{command_of, file_of, use_of, verify, Means, NamesKnown, NoOthers, PrintsAll, IsOutcome, HasStatus};
+ghost use Rattle.ft_cli.specs.Top.{Writes, HasHeadline, HasRefutation, IsComplete};
 ghost use Rattle.ft_cli.specs.stages.Command.{asked_by, report_on_error, report_on_fault};
 
 use crate::command::{Command, command_of};
@@ -78,8 +79,10 @@ fn report_for(alloc: Global, command: &Command, text: &[u8]) -> Report
 /// What a command says of its file.
 fn report_on_file<S: Shelf>(alloc: Global, command: &Command, shelf: &mut S) -> Report
     requires { Contains (S.names shelf.old) (file_of (asked_by command.now)) }
-    ensures outcome { IsOutcome (Some (asked_by command.now)) (use_of (S.content shelf.old) (S.reads shelf.new) (S.faults shelf.old) (S.faults shelf.new) (S.reach shelf.new)) result }
-    ensures others { NoOthers (Some (asked_by command.now)) (S.reach shelf.old) (S.reach shelf.new) (S.faults shelf.old) (S.faults shelf.new) (S.reads shelf.old) (S.reads shelf.new) }
+    ensures outcome { IsOutcome (Some (asked_by command.now)) (use_of (S.content shelf.old) (S.reads shelf.new) (S.faults shelf.old)
+        (S.faults shelf.new) (S.reach shelf.new)) result }
+    ensures others { NoOthers (Some (asked_by command.now)) (S.reach shelf.old) (S.reach shelf.new) (S.faults shelf.old)
+        (S.faults shelf.new) (S.reads shelf.old) (S.reads shelf.new) }
     ensures content { S.content shelf.new ≡ S.content shelf.old }
     ensures names { S.names shelf.new ≡ S.names shelf.old }
 {
@@ -92,8 +95,10 @@ fn report_on_file<S: Shelf>(alloc: Global, command: &Command, shelf: &mut S) -> 
 /// What the words ask for.
 fn report_on<S: Shelf>(alloc: Global, words: &[String], shelf: &mut S) -> Report
     requires { NamesKnown (map string_bytes words.now) (S.names shelf.old) }
-    ensures outcome { IsOutcome (command_of (map string_bytes words.now)) (use_of (S.content shelf.old) (S.reads shelf.new) (S.faults shelf.old) (S.faults shelf.new) (S.reach shelf.new)) result }
-    ensures others { NoOthers (command_of (map string_bytes words.now)) (S.reach shelf.old) (S.reach shelf.new) (S.faults shelf.old) (S.faults shelf.new) (S.reads shelf.old) (S.reads shelf.new) }
+    ensures outcome { IsOutcome (command_of (map string_bytes words.now))
+        (use_of (S.content shelf.old) (S.reads shelf.new) (S.faults shelf.old) (S.faults shelf.new) (S.reach shelf.new)) result }
+    ensures others { NoOthers (command_of (map string_bytes words.now)) (S.reach shelf.old) (S.reach shelf.new) (S.faults shelf.old)
+        (S.faults shelf.new) (S.reads shelf.old) (S.reads shelf.new) }
     ensures content { S.content shelf.new ≡ S.content shelf.old }
     ensures names { S.names shelf.new ≡ S.names shelf.old }
 {
@@ -137,12 +142,20 @@ fn answer<K: Sink>(alloc: Global, report: Report, sink: &mut K) -> Ended
 /// name are among the shelf's.
 pub fn run<S: Shelf, K: Sink>(alloc: Global, words: &[String], shelf: &mut S, sink: &mut K) -> Ended
     requires { NamesKnown (map string_bytes words.now) (S.names shelf.old) }
-    ensures headline { (file : List ℕ) → command_of (map string_bytes words.now) ≡ Some (verify file) → result.status ≡ 0 → HasHeadline (use_of (S.content shelf.old) (S.reads shelf.new) (S.faults shelf.old) (S.faults shelf.new) (S.reach shelf.new) file) result.report }
-    ensures refutation { (file : List ℕ) → command_of (map string_bytes words.now) ≡ Some (verify file) → result.status ≡ 1 → HasRefutation (use_of (S.content shelf.old) (S.reads shelf.new) (S.faults shelf.old) (S.faults shelf.new) (S.reach shelf.new) file) result.report }
-    ensures complete { IsComplete (command_of (map string_bytes words.now)) (use_of (S.content shelf.old) (S.reads shelf.new) (S.faults shelf.old) (S.faults shelf.new) (S.reach shelf.new)) result.report }
-    ensures prints { PrintsAll (command_of (map string_bytes words.now)) (use_of (S.content shelf.old) (S.reads shelf.new) (S.faults shelf.old) (S.faults shelf.new) (S.reach shelf.new)) result.report }
-    ensures outcome { IsOutcome (command_of (map string_bytes words.now)) (use_of (S.content shelf.old) (S.reads shelf.new) (S.faults shelf.old) (S.faults shelf.new) (S.reach shelf.new)) result.report }
-    ensures others { NoOthers (command_of (map string_bytes words.now)) (S.reach shelf.old) (S.reach shelf.new) (S.faults shelf.old) (S.faults shelf.new) (S.reads shelf.old) (S.reads shelf.new) }
+    ensures headline { (file : List ℕ) → command_of (map string_bytes words.now) ≡ Some (verify file) → result.status ≡ 0
+        → HasHeadline (use_of (S.content shelf.old) (S.reads shelf.new) (S.faults shelf.old) (S.faults shelf.new) (S.reach shelf.new) file)
+        result.report }
+    ensures refutation { (file : List ℕ) → command_of (map string_bytes words.now) ≡ Some (verify file) → result.status ≡ 1
+        → HasRefutation (use_of (S.content shelf.old) (S.reads shelf.new) (S.faults shelf.old) (S.faults shelf.new) (S.reach shelf.new)
+        file) result.report }
+    ensures complete { IsComplete (command_of (map string_bytes words.now))
+        (use_of (S.content shelf.old) (S.reads shelf.new) (S.faults shelf.old) (S.faults shelf.new) (S.reach shelf.new)) result.report }
+    ensures prints { PrintsAll (command_of (map string_bytes words.now))
+        (use_of (S.content shelf.old) (S.reads shelf.new) (S.faults shelf.old) (S.faults shelf.new) (S.reach shelf.new)) result.report }
+    ensures outcome { IsOutcome (command_of (map string_bytes words.now))
+        (use_of (S.content shelf.old) (S.reads shelf.new) (S.faults shelf.old) (S.faults shelf.new) (S.reach shelf.new)) result.report }
+    ensures others { NoOthers (command_of (map string_bytes words.now)) (S.reach shelf.old) (S.reach shelf.new) (S.faults shelf.old)
+        (S.faults shelf.new) (S.reads shelf.old) (S.reads shelf.new) }
     ensures status { HasStatus (K.faults sink.old) (K.faults sink.new) result }
     ensures written { Writes (K.taken sink.old) (K.taken sink.new) result }
     ensures once { K.writes sink.new ≡ one_more (K.writes sink.old) }

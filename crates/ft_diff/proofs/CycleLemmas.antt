@@ -6,7 +6,8 @@ use Rattle.ft_diff.specs.declared.diff.Diff.{Diff}
 use Rattle.ft_diff.specs.meaning.Differences.{Meets, number_at}
 
 -- one more line on the way
-pub further : (list : List Diff) (start u v : ℕ) (total now : ℤ) (d : Diff) → ((x : ℕ → ℤ) → All (Meets x) list → x start ≤ℤ (x u +ℤ total)) → Contains list d
+pub further : (list : List Diff) (start u v : ℕ) (total now : ℤ) (d : Diff) → ((x : ℕ → ℤ) → All (Meets x) list → x start ≤ℤ (x u +ℤ total))
+    → Contains list d
     → d.x ≡ Some u → d.y ≡ Some v → now ≡ total +ℤ d.c → (x : ℕ → ℤ) → All (Meets x) list → x start ≤ℤ (x v +ℤ now)
 further list start u v total now d so has first second sum x all =
     let before = so x all in
@@ -16,6 +17,8 @@ further list start u v total now d so has first second sum x all =
     omega (arith, ints, before, met, at, to, sum)
 
 -- a way back to its start with a sum below 0
-pub no-way : (list : List Diff) (start u : ℕ) (total : ℤ) → ((x : ℕ → ℤ) → All (Meets x) list → x start ≤ℤ (x u +ℤ total)) → u ≡ start → total <ℤ pos 0
+pub no-way : (list : List Diff) (start u : ℕ) (total : ℤ) → ((x : ℕ → ℤ) → All (Meets x) list → x start ≤ℤ (x u +ℤ total)) → u ≡ start
+    → total <ℤ pos 0
     → (x : ℕ → ℤ) → All (Meets x) list → ⊥
-no-way list start u total so back less x all = let way = so x all in let same : x u ≡ x start = ap x back in absurd (omega (arith, ints, way, same, less))
+no-way list start u total so back less x all = let way = so x all in let same : x u ≡ x start = ap x back in
+    absurd (omega (arith, ints, way, same, less))

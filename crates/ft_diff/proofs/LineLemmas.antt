@@ -1,5 +1,7 @@
 -- Difference lines as a list.
-use Rattle.std.proofs.Common.{◌≡◌, ◌∙◌, inl, inr, sym, ap, subst, refl, ℕ, zero, suc, ◌+◌, ◌<◌, ◌↔◌, ℤ, pos, negsuc, neg_ℤ, ◌+ℤ◌, ◌-ℤ◌, ◌*ℤ◌, ◌≤ℤ◌, Bool, true, false, ◌&&◌, ◌||◌, cond, List, [], ◌∷◌, ◌++◌, length, Option, Some, None, slice_get, All, arith, w64}
+use Rattle.std.proofs.Common.{◌≡◌, ◌∙◌, inl, inr, sym, ap, subst, refl, ℕ, zero, suc, ◌+◌, ◌<◌, ◌↔◌, ℤ, pos, negsuc, neg_ℤ, ◌+ℤ◌, ◌-ℤ◌}
+use Rattle.std.proofs.Common.{◌*ℤ◌, ◌≤ℤ◌, Bool, true, false, ◌&&◌, ◌||◌, cond, List, [], ◌∷◌, ◌++◌, length, Option, Some, None, slice_get}
+use Rattle.std.proofs.Common.{All, arith, w64}
 use Rattle.std.proofs.lemmas.Bool.{cases_Bool, cases_eq}
 use Rattle.std.proofs.lemmas.Int.{ints, to_z-of_z, fits_signed_from_abs}
 use mir.Val.{to_z, of_z}
@@ -58,7 +60,10 @@ meets-from x (f ∷ g ∷ []) c d e = elim (cases_Bool (is_one f.1)) [
         let is : diff (Some f.0) (Some g.0) (neg_ℤ c) ≡ d = cc (rw (so, minus) at e) in
         let p = plus-one f.1 (x f.0) (one-is f.1 so) in
         let q = times-minus g.1 (x g.0) (minus-is g.1 minus) in
-        subst (λ (d : Diff). Meets x d ↔ IsMet x (f ∷ g ∷ []) c) is ((λ m. omega (arith, ints, m, p, q)), (λ m. omega (arith, ints, m, p, q)))
+        subst (λ (d : Diff). Meets x d ↔ IsMet x (f ∷ g ∷ []) c) is (
+          (λ m. omega (arith, ints, m, p, q)),
+          (λ m. omega (arith, ints, m, p, q)),
+        )
     | inr other ↦ cc (rw (so, other) at e)
   ]
   | inr isnt ↦ elim (cases_Bool (is_minus_one f.1)) [
@@ -67,7 +72,10 @@ meets-from x (f ∷ g ∷ []) c d e = elim (cases_Bool (is_one f.1)) [
           let is : diff (Some g.0) (Some f.0) (neg_ℤ c) ≡ d = cc (rw (isnt, minus, so) at e) in
           let p = times-minus f.1 (x f.0) (minus-is f.1 minus) in
           let q = plus-one g.1 (x g.0) (one-is g.1 so) in
-          subst (λ (d : Diff). Meets x d ↔ IsMet x (f ∷ g ∷ []) c) is ((λ m. omega (arith, ints, m, p, q)), (λ m. omega (arith, ints, m, p, q)))
+          subst (λ (d : Diff). Meets x d ↔ IsMet x (f ∷ g ∷ []) c) is (
+            (λ m. omega (arith, ints, m, p, q)),
+            (λ m. omega (arith, ints, m, p, q)),
+          )
       | inr other ↦ cc (rw (isnt, minus, other) at e)
     ]
     | inr other ↦ cc (rw (isnt, other) at e)
@@ -151,7 +159,8 @@ same-difference false l = negated l.factors
     negated [] = refl
     negated (f ∷ []) = rw (one-negated f.1, minus-negated f.1) (or-swapped (is_minus_one f.1) (is_one f.1))
     negated (f ∷ g ∷ []) =
-        rw (one-negated f.1, minus-negated f.1, one-negated g.1, minus-negated g.1) (or-swapped (is_minus_one f.1 && is_one g.1) (is_one f.1 && is_minus_one g.1))
+        rw (one-negated f.1, minus-negated f.1, one-negated g.1, minus-negated g.1)
+        (or-swapped (is_minus_one f.1 && is_one g.1) (is_one f.1 && is_minus_one g.1))
     negated (f ∷ g ∷ h ∷ fs) = refl
 
 all-left : {X : Type 0} (P : X → Type 0) (xs ys : List X) → All P (xs ++ ys) → All P xs
@@ -208,17 +217,20 @@ module _ (f : FormulaView) (p : PartView) (x : ℕ → ℤ) where
         let fs = (literal_form s l).factors in
         let (d, is) = some-from fs (literal_form s l).constant (same-difference s l ∙ difference) in
         let lines = of-literal a s (at-line (length f.atoms) a (slice_get_within f.atoms a l got) all) in
-        let one : All (Meets x) (d ∷ []) = subst (λ (ds : List Diff). All (Meets x) ds) ((λ i. line_if (so i) (form_diff s (got i))) ∙ ap (line_if true) is) lines in
+        let one : All (Meets x) (d ∷ []) = subst (λ (ds : List Diff). All (Meets x) ds)
+        ((λ i. line_if (so i) (form_diff s (got i))) ∙ ap (line_if true) is) lines in
         (meets-from x fs (literal_form s l).constant d is).0 (All-head (Meets x) d [] one);
   }
 
 -- the lines of one more atom
 pub lines-more : (f : FormulaView) (p : PartView) (a : ℕ) (l : LinView) (yes_forced no_forced : Bool) → slice_get f.atoms a ≡ Some l
     → yes_forced ≡ forced f p a true → no_forced ≡ forced f p a false
-    → lines_below f p (a + 1) ≡ lines_below f p a ++ (line_if yes_forced (form_diff true (Some l)) ++ line_if no_forced (form_diff false (Some l)))
+    → lines_below f p (a + 1) ≡ lines_below f p a ++ (line_if yes_forced (form_diff true (Some l))
+    ++ line_if no_forced (form_diff false (Some l)))
 lines-more f p a l yes_forced no_forced got y n =
     let same : a + 1 ≡ suc a = omega arith in
-    ap (lines_below f p) same ∙ (λ i. lines_below f p a ++ (line_if (sy i) (form_diff true (got i)) ++ line_if (sn i) (form_diff false (got i))))
+    ap (lines_below f p) same ∙ (λ i. lines_below f p a ++ (line_if (sy i) (form_diff true (got i))
+    ++ line_if (sn i) (form_diff false (got i))))
   where
     sy : forced f p a true ≡ yes_forced
     sy = sym y

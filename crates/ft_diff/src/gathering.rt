@@ -1,6 +1,7 @@
 // The difference lines of a part, and whether they have a whole solution within its bounds.
 
-ghost use Rattle.std.specs.Prelude.{◌≡◌, ◌≤◌, ◌<◌, ◌+◌, ◌*◌, ◌++◌, ℕ, ℤ, pos, ◌-ℤ◌, neg_ℤ, [], ◌∷◌, true, false, length, take, unsigned_abs, All, IsTrue, IsFalse, IfOk, IfSome, Some, None, slice_get, if◌then◌else◌};
+ghost use Rattle.std.specs.Prelude.{◌≡◌, ◌≤◌, ◌<◌, ◌+◌, ◌*◌, ◌++◌, ℕ, ℤ, pos, ◌-ℤ◌, neg_ℤ, [], ◌∷◌, true, false, length, take};
+ghost use Rattle.std.specs.Prelude.{unsigned_abs, All, IsTrue, IsFalse, IfOk, IfSome, Some, None, slice_get, if◌then◌else◌};
 ghost use Rattle.ft_linear.specs.meaning.Form.{HasUnknowns, IsSmall, values_at};
 ghost use Rattle.ft_linear.specs.meaning.Formula.{IsOver as IsFormulaOver, Satisfies};
 ghost use Rattle.ft_linear.specs.meaning.Part.{PointOf, forced};
@@ -162,9 +163,11 @@ fn is_forced(formula: &Formula, part: &Part, marks: &Marks, atom: usize, value: 
 
 fn add_atom(form: &Lin, yes: bool, no: bool, lines: &mut [Diff], count: usize) -> usize
     requires { count + 2 ≤ length lines.old }
-    ensures lines { take result lines.new ≡ take count lines.old ++ (line_if yes (form_diff true (Some form.now)) ++ line_if no (form_diff false (Some form.now))) }
+    ensures lines { take result lines.new ≡ take count lines.old ++ (line_if yes (form_diff true (Some form.now))
+        ++ line_if no (form_diff false (Some form.now))) }
     ensures few { result ≤ count + 2 }
-    ensures over { (n : ℕ) → All (IsOver n) (take count lines.old) → HasUnknowns n form.now.factors → All (IsOver n) (take result lines.new) }
+    ensures over { (n : ℕ) → All (IsOver n) (take count lines.old) → HasUnknowns n form.now.factors
+        → All (IsOver n) (take result lines.new) }
 {
     let with_yes = add(lines, count, yes, difference(form, true));
     add(lines, with_yes, no, difference(form, false))

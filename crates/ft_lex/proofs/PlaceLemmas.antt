@@ -1,7 +1,9 @@
 -- Places, byte by byte.
-use Rattle.std.proofs.Common.{◌≡◌, ◌∙◌, sym, ap, refl, ℕ, ◌+◌, ◌-◌, ◌<◌, ◌≤◌, ◌==◌, inl, inr, List, true, false, length, take, get_or, arith}
+use Rattle.std.proofs.Common.{◌≡◌, ◌∙◌, sym, ap, refl, ℕ, ◌+◌, ◌-◌, ◌<◌, ◌≤◌, ◌==◌, inl, inr, List, true, false, length, take, get_or}
+use Rattle.std.proofs.Common.{arith}
 use Rattle.std.specs.List.{suffix_len}
-use Rattle.std.proofs.lemmas.List.Sums.{count_by_more_yes, count_by_more_no, count_by-le-length, suffix_len-take_no, suffix_len-take_yes, suffix_len-le-length}
+use Rattle.std.proofs.lemmas.List.Sums.{count_by_more_yes, count_by_more_no, count_by-le-length, suffix_len-take_no, suffix_len-take_yes}
+use Rattle.std.proofs.lemmas.List.Sums.{suffix_len-le-length}
 use Rattle.std.proofs.lemmas.List.{length-take-le}
 use Rattle.std.proofs.lemmas.Bool.{cases_Bool}
 use Rattle.ft_base.specs.declared.place.Place.{Place}
@@ -13,10 +15,12 @@ same_place : (p q : Place) → p.line ≡ q.line → p.column ≡ q.column → p
 same_place p q lines columns = λ i. record { line = lines i; column = columns i }
 
 -- the place after one byte more
-pub next_place-is : (text : List ℕ) (n b : ℕ) → n < length text → b ≡ get_or text n 0 → next_place (place_after (take n text)) b ≡ place_after (take (n + 1) text)
+pub next_place-is : (text : List ℕ) (n b : ℕ) → n < length text → b ≡ get_or text n 0 → next_place (place_after (take n text)) b
+    ≡ place_after (take (n + 1) text)
 next_place-is text n b h is =
     let back : n + 1 - 1 ≡ n = omega arith in
-    let last : is_within_line (get_or text (n + 1 - 1) 0) ≡ is_within_line b = ap (λ (k : ℕ). is_within_line (get_or text k 0)) back ∙ ap is_within_line (sym is) in
+    let last : is_within_line (get_or text (n + 1 - 1) 0) ≡ is_within_line b = ap (λ (k : ℕ). is_within_line (get_or text k 0)) back
+    ∙ ap is_within_line (sym is) in
     elim (cases_Bool (b == 10)) [
       | inl feed ↦
           let in_line : is_within_line b ≡ false = rw feed refl in
@@ -27,7 +31,8 @@ next_place-is text n b h is =
           let in_line : is_within_line b ≡ true = rw other refl in
           let lines = count_by_more_no (λ x. x == 10) text n 0 h (ap (λ (x : ℕ). x == 10) (sym is) ∙ other) in
           let columns = suffix_len-take_yes is_within_line text (n + 1) 0 (omega arith) (omega arith) (last ∙ in_line) in
-          let before : suffix_len is_within_line (take (n + 1 - 1) text) ≡ suffix_len is_within_line (take n text) = ap (λ (k : ℕ). suffix_len is_within_line (take k text)) back in
+          let before : suffix_len is_within_line (take (n + 1 - 1) text) ≡ suffix_len is_within_line (take n text) =
+          ap (λ (k : ℕ). suffix_len is_within_line (take k text)) back in
           rw other (same_place _ _ (omega (arith, lines)) (omega (arith, columns, before)))
     ]
 

@@ -1,5 +1,6 @@
 -- The reading of one token gives its shape, and no other.
-use Rattle.std.proofs.Common.{◌≡◌, ◌∙◌, sym, ap, subst, refl, ℕ, zero, suc, ◌<◌, ◌≤◌, List, [], ◌∷◌, ◌||◌, inl, inr, not, Bool, true, false, length, take, arith}
+use Rattle.std.proofs.Common.{◌≡◌, ◌∙◌, sym, ap, subst, refl, ℕ, zero, suc, ◌<◌, ◌≤◌, List, [], ◌∷◌, ◌||◌, inl, inr, not, Bool, true, false}
+use Rattle.std.proofs.Common.{length, take, arith}
 use Rattle.std.specs.Io.{StartsWith}
 use Rattle.std.specs.List.{Contains, list_all, prefix_len}
 use Rattle.std.proofs.lemmas.Bool.{true≢false, cases_Bool}
@@ -40,7 +41,8 @@ free-begins (b ∷ bytes) (c ∷ sign) h here =
 
 free-sign : (bytes sign : List ℕ) → Contains signs sign → StartsWith bytes sign → IsFree bytes
 free-sign bytes sign listed here =
-    free-begins bytes sign (All-contains (λ x. begins_no_word x ≡ true) signs sign (all-tested begins_no_word signs no_word-all) listed) here
+    free-begins bytes sign (All-contains (λ x. begins_no_word x ≡ true) signs sign (all-tested begins_no_word signs no_word-all) listed)
+    here
 
 sign-some : (sign : List ℕ) → begins_no_word sign ≡ true → 0 < length sign
 unfolding begins_no_word
@@ -48,13 +50,15 @@ sign-some [] h = absurd (true≢false (sym h))
 sign-some (b ∷ sign) h = omega arith
 
 listed-some : (sign : List ℕ) → Contains signs sign → 0 < length sign
-listed-some sign listed = sign-some sign (All-contains (λ x. begins_no_word x ≡ true) signs sign (all-tested begins_no_word signs no_word-all) listed)
+listed-some sign listed = sign-some sign (All-contains (λ x. begins_no_word x ≡ true) signs sign
+    (all-tested begins_no_word signs no_word-all) listed)
 
 -- the four ways in which a token begins
 of_letter : (b : ℕ) (more : List ℕ) → is_letter b ≡ true → shape_of (b ∷ more) ≡ name_shape (b ∷ more) (prefix_len is_name_byte (b ∷ more))
 of_letter b more h = rw h refl
 
-of_digit : (b : ℕ) (more : List ℕ) → is_letter b ≡ false → is_digit b ≡ true → shape_of (b ∷ more) ≡ (Number, prefix_len is_digit (b ∷ more))
+of_digit : (b : ℕ) (more : List ℕ) → is_letter b ≡ false → is_digit b ≡ true → shape_of (b ∷ more)
+    ≡ (Number, prefix_len is_digit (b ∷ more))
 of_digit b more h k = rw (h, k) refl
 
 of_other : (b : ℕ) (more : List ℕ) → is_letter b ≡ false → is_digit b ≡ false → shape_of (b ∷ more) ≡ sign_shape (sign_len (b ∷ more))
@@ -87,18 +91,21 @@ signed b more h k = elim (sign_len-found (b ∷ more)) [
     },
     refl,
   )
-  | inr found ↦ subst (λ (s : Shape). Shaped (b ∷ more) s) (sym (as_sign _ (omega (arith, found.all, listed-some found.text found.listed)))) (record {
-    sign = found.text;
-    listed = found.listed;
-    here = found.here;
-    all = found.all;
-    longest = λ other listed here. sign_len-longest (b ∷ more) other listed here;
-  })
+  | inr found ↦ subst (λ (s : Shape). Shaped (b ∷ more) s) (sym (as_sign _ (omega (arith, found.all, listed-some found.text found.listed))))
+      (record {
+        sign = found.text;
+        listed = found.listed;
+        here = found.here;
+        all = found.all;
+        longest = λ other listed here. sign_len-longest (b ∷ more) other listed here;
+      })
 ]
 
-named : (b : ℕ) (more : List ℕ) (n : ℕ) → is_letter b ≡ true → n ≡ prefix_len is_name_byte (b ∷ more) → Shaped (b ∷ more) (name_shape (b ∷ more) n)
+named : (b : ℕ) (more : List ℕ) (n : ℕ) → is_letter b ≡ true → n ≡ prefix_len is_name_byte (b ∷ more)
+    → Shaped (b ∷ more) (name_shape (b ∷ more) n)
 named b more n h whole = elim (cases_Bool (is_reserved_word (take n (b ∷ more)))) [
-  | inl reserved ↦ subst (λ (s : Shape). Shaped (b ∷ more) s) (sym (as_word (b ∷ more) n reserved)) (record { letter = h; whole = whole }, reserved)
+  | inl reserved ↦ subst (λ (s : Shape). Shaped (b ∷ more) s) (sym (as_word (b ∷ more) n reserved))
+      (record { letter = h; whole = whole }, reserved)
   | inr free ↦ subst (λ (s : Shape). Shaped (b ∷ more) s) (sym (as_name (b ∷ more) n free)) (record { letter = h; whole = whole }, free)
 ]
 
@@ -108,8 +115,10 @@ shape-is [] = (refl, refl)
 shape-is (b ∷ more) = elim (cases_Bool (is_letter b)) [
   | inl letter ↦ subst (λ (s : Shape). Shaped (b ∷ more) s) (sym (of_letter b more letter)) (named b more _ letter refl)
   | inr no_letter ↦ elim (cases_Bool (is_digit b)) [
-    | inl digit ↦ subst (λ (s : Shape). Shaped (b ∷ more) s) (sym (of_digit b more no_letter digit)) (record { digit = digit; whole = refl })
-    | inr no_digit ↦ subst (λ (s : Shape). Shaped (b ∷ more) s) (sym (of_other b more no_letter no_digit)) (signed b more no_letter no_digit)
+    | inl digit ↦ subst (λ (s : Shape). Shaped (b ∷ more) s) (sym (of_digit b more no_letter digit))
+        (record { digit = digit; whole = refl })
+    | inr no_digit ↦ subst (λ (s : Shape). Shaped (b ∷ more) s) (sym (of_other b more no_letter no_digit))
+        (signed b more no_letter no_digit)
   ]
 ]
 
@@ -140,14 +149,16 @@ shape-only Number (b ∷ more) n h =
 shape-only Sign [] n h = absurd (free-sign [] h.sign h.listed h.here)
 shape-only Sign (b ∷ more) n h =
     let free = free-sign (b ∷ more) h.sign h.listed h.here in
-    sym (as_sign n (omega (arith, h.all, listed-some h.sign h.listed))) ∙ ap sign_shape (sign-only (b ∷ more) n h) ∙ sym (of_other b more free.0 free.1)
+    sym (as_sign n (omega (arith, h.all, listed-some h.sign h.listed))) ∙ ap sign_shape (sign-only (b ∷ more) n h)
+    ∙ sym (of_other b more free.0 free.1)
 shape-only End bytes n h =
     let same : ◌≡◌ {A = Shape} (End, n) (End, 0) = λ i. (End, h.1 i) in
     same ∙ ap shape_of (sym h.0)
 shape-only Bad [] n h = absurd (omega (arith, h.0.some))
 shape-only Bad (b ∷ more) n h =
     let same : ◌≡◌ {A = Shape} (Bad, n) (Bad, 1) = λ i. (Bad, h.1 i) in
-    same ∙ ap sign_shape (sym (sign-none (b ∷ more) h.0)) ∙ sym (of_other b more (not_true (is_letter b) h.0.letter) (not_true (is_digit b) h.0.digit))
+    same ∙ ap sign_shape (sym (sign-none (b ∷ more) h.0)) ∙ sym (of_other b more (not_true (is_letter b) h.0.letter)
+    (not_true (is_digit b) h.0.digit))
 
 starts-within : (bytes text : List ℕ) → StartsWith bytes text → length text ≤ length bytes
 starts-within bytes text h = omega (arith, ap length h, length-take (length text) bytes)

@@ -5,7 +5,8 @@ use Rattle.std.specs.Io.{StartsWith}
 use Rattle.std.specs.List.{All, Contains, list_all, starts_with}
 use Rattle.std.proofs.lemmas.Bool.{true≢false, cases_Bool}
 use Rattle.std.proofs.lemmas.Bool.Decides.{nat_tests}
-use Rattle.std.proofs.lemmas.List.Elements.{All-nil, All-cons, All-weaker, All-contains, Contains-push, Contains-append_left, Contains-append_right}
+use Rattle.std.proofs.lemmas.List.Elements.{All-nil, All-cons, All-weaker, All-contains, Contains-push, Contains-append_left}
+use Rattle.std.proofs.lemmas.List.Elements.{Contains-append_right}
 use Rattle.std.proofs.lemmas.Slice.Eq.{bytes_eq-Decides}
 use Rattle.ft_lex.specs.meaning.Signs.{signs}
 use Rattle.ft_lex.specs.lexing.Lexing.{first_len, sign_len}
@@ -13,11 +14,13 @@ use Rattle.ft_lex.specs.lexing.Lexing.{first_len, sign_len}
 abbrev table_len : List (List ℕ) → List ℕ → ℕ
 table_len table bytes = first_len (λ text. text) table bytes
 
-len-begins : (text : List ℕ) (more : List (List ℕ)) (bytes : List ℕ) → starts_with nat_eq bytes text ≡ true → table_len (text ∷ more) bytes ≡ length text
+len-begins : (text : List ℕ) (more : List (List ℕ)) (bytes : List ℕ) → starts_with nat_eq bytes text ≡ true → table_len (text ∷ more) bytes
+    ≡ length text
 unfolding first_len
 len-begins text more bytes h = rw h refl
 
-len-skips : (text : List ℕ) (more : List (List ℕ)) (bytes : List ℕ) → starts_with nat_eq bytes text ≡ false → table_len (text ∷ more) bytes ≡ table_len more bytes
+len-skips : (text : List ℕ) (more : List (List ℕ)) (bytes : List ℕ) → starts_with nat_eq bytes text ≡ false → table_len (text ∷ more) bytes
+    ≡ table_len more bytes
 unfolding first_len
 len-skips text more bytes h = rw h refl
 
@@ -47,7 +50,8 @@ and-right false b h = absurd (true≢false (sym h))
 -- what a test of each element says
 pub all-tested : {X : Type 0} (test : X → Bool) (xs : List X) → list_all test xs ≡ true → All (λ x. test x ≡ true) xs
 all-tested test [] h = All-nil (λ x. test x ≡ true)
-all-tested test (x ∷ xs) h = All-cons (λ x. test x ≡ true) x xs (and-left (test x) (list_all test xs) h) (all-tested test xs (and-right (test x) (list_all test xs) h))
+all-tested test (x ∷ xs) h = All-cons (λ x. test x ≡ true) x xs (and-left (test x) (list_all test xs) h)
+    (all-tested test xs (and-right (test x) (list_all test xs) h))
 
 abbrev NoLonger : List ℕ → ℕ → List ℕ → Type 0
 NoLonger bytes n other = StartsWith bytes other → length other ≤ n
@@ -62,11 +66,14 @@ longest-in (text ∷ more) bytes h =
       | inl starts ↦
           let here = len-begins text more bytes starts in
           All-cons (NoLonger bytes (table_len (text ∷ more) bytes)) text more (λ _. omega (arith, here))
-          (All-weaker _ (NoLonger bytes (table_len (text ∷ more) bytes)) (λ other (shorter : nat_le (length other) (length text) ≡ true) _. grind (arith, nat_tests, here)) more falls)
+          (All-weaker _ (NoLonger bytes (table_len (text ∷ more) bytes))
+          (λ other (shorter : nat_le (length other) (length text) ≡ true) _. grind (arith, nat_tests, here)) more falls)
       | inr skips ↦
           let here = len-skips text more bytes skips in
-          All-cons (NoLonger bytes (table_len (text ∷ more) bytes)) text more (λ starts. absurd (true≢false (sym (tests bytes text starts) ∙ skips)))
-          (All-weaker (NoLonger bytes (table_len more bytes)) (NoLonger bytes (table_len (text ∷ more) bytes)) (λ other (shorter : NoLonger bytes (table_len more bytes) other) starts. omega (arith, here, shorter starts)) more later)
+          All-cons (NoLonger bytes (table_len (text ∷ more) bytes)) text more
+          (λ starts. absurd (true≢false (sym (tests bytes text starts) ∙ skips)))
+          (All-weaker (NoLonger bytes (table_len more bytes)) (NoLonger bytes (table_len (text ∷ more) bytes))
+          (λ other (shorter : NoLonger bytes (table_len more bytes) other) starts. omega (arith, here, shorter starts)) more later)
     ]
 
 -- a text of the table that the bytes begin with
@@ -79,7 +86,13 @@ pub record Found (table : List (List ℕ)) (bytes : List ℕ) (n : ℕ) : Type 0
 found-in : (table : List (List ℕ)) (bytes : List ℕ) → (table_len table bytes ≡ 0) ⊎ Found table bytes (table_len table bytes)
 found-in [] bytes = inl (len-nil bytes)
 found-in (text ∷ more) bytes = elim (cases_Bool (starts_with nat_eq bytes text)) [
-  | inl starts ↦ inr (record { text = text; listed = Contains-append_left (text ∷ []) more text (Contains-push [] text); here = begins bytes text starts; all = len-begins text more bytes starts })
+  | inl starts ↦ inr (record {
+    text = text;
+    listed = Contains-append_left (text ∷ []) more text (Contains-push [] text);
+    here =
+        begins bytes text starts;
+    all = len-begins text more bytes starts;
+  })
   | inr skips ↦ elim (found-in more bytes) [
     | inl none ↦ inl (len-skips text more bytes skips ∙ none)
     | inr found ↦ inr (record {
@@ -97,7 +110,8 @@ signs-fall = refl
 
 -- no sign that the bytes begin with is longer than the one that is found
 pub sign_len-longest : (bytes other : List ℕ) → Contains signs other → StartsWith bytes other → length other ≤ sign_len bytes
-sign_len-longest bytes other listed here = All-contains (NoLonger bytes (sign_len bytes)) signs other (longest-in signs bytes signs-fall) listed here
+sign_len-longest bytes other listed here = All-contains (NoLonger bytes (sign_len bytes)) signs other (longest-in signs bytes signs-fall)
+    listed here
 
 -- a length above 0 is that of a sign
 pub sign_len-found : (bytes : List ℕ) → (sign_len bytes ≡ 0) ⊎ Found signs bytes (sign_len bytes)

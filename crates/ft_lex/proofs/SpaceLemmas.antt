@@ -1,5 +1,6 @@
 -- What the count of space says of the text.
-use Rattle.std.proofs.Common.{◌≡◌, ◌∙◌, sym, ap, subst, refl, ℕ, suc, ◌+◌, List, [], ◌∷◌, ◌++◌, ◌==◌, Bool, true, false, length, drop, inl, inr, length-append, arith}
+use Rattle.std.proofs.Common.{◌≡◌, ◌∙◌, sym, ap, subst, refl, ℕ, suc, ◌+◌, List, [], ◌∷◌, ◌++◌, ◌==◌, Bool, true, false, length, drop, inl}
+use Rattle.std.proofs.Common.{inr, length-append, arith}
 use Rattle.std.specs.List.{list_all}
 use Rattle.std.proofs.lemmas.Bool.{true≢false, cases_Bool}
 use Rattle.std.proofs.lemmas.Bool.Decides.{nat_tests}
@@ -77,7 +78,8 @@ all-tail : (b : ℕ) (line : List ℕ) → list_all is_within_line (b ∷ line) 
 all-tail b line h = grind (arith, nat_tests)
 
 -- a comment's line is space
-space-line : (line rest : List ℕ) → list_all is_within_line line ≡ true → space_from Comment (line ++ rest) ≡ length line + space_from Comment rest
+space-line : (line rest : List ℕ) → list_all is_within_line line ≡ true → space_from Comment (line ++ rest)
+    ≡ length line + space_from Comment rest
 space-line [] rest h = omega arith
 space-line (b ∷ line) rest h =
     let here = space-in_line b (line ++ rest) (within_line-is b (all-head b line h)) in
@@ -121,7 +123,12 @@ record Both (text : List ℕ) : Type 0 where
   commented : Commented text (drop (space_from Comment text) text)
 
 more-blank : (b : ℕ) (text rest : List ℕ) → is_blank b ≡ true → IsSpaceBefore text rest → IsSpaceBefore (b ∷ text) rest
-more-blank b text rest h space = record { pieces = blank b ∷ space.pieces; written = ap (λ (l : List ℕ). b ∷ l) space.written; are = (h, space.are) }
+more-blank b text rest h space = record {
+  pieces = blank b ∷ space.pieces;
+  written = ap (λ (l : List ℕ). b ∷ l) space.written;
+  are =
+      (h, space.are);
+}
 
 more-hash : (b : ℕ) (text rest : List ℕ) → 35 ≡ b → Commented text rest → IsSpaceBefore (b ∷ text) rest
 more-hash b text rest h c = record {
@@ -158,23 +165,28 @@ at P n m b text e p = subst (λ (k : ℕ). P (drop k (b ∷ text))) (sym e) p
 
 blanks-more : (b : ℕ) (text : List ℕ) → Both text → IsSpaceBefore (b ∷ text) (drop (space_from Blanks (b ∷ text)) (b ∷ text))
 blanks-more b text both = elim (cases_Bool (b == 35)) [
-  | inl hash ↦ at (IsSpaceBefore (b ∷ text)) _ _ b text (space-hash b text hash) (more-hash b text _ (sym (number-is b 35 hash)) both.commented)
+  | inl hash ↦ at (IsSpaceBefore (b ∷ text)) _ _ b text (space-hash b text hash)
+      (more-hash b text _ (sym (number-is b 35 hash)) both.commented)
   | inr other ↦ elim (cases_Bool (is_blank b)) [
     | inl is ↦ at (IsSpaceBefore (b ∷ text)) _ _ b text (space-blank b text is) (more-blank b text _ is both.blanks)
-    | inr no_blank ↦ subst (λ (k : ℕ). IsSpaceBefore (b ∷ text) (drop k (b ∷ text))) (sym (space-stop Blanks b text (grind (arith, nat_tests)))) (no-space (b ∷ text))
+    | inr no_blank ↦ subst (λ (k : ℕ). IsSpaceBefore (b ∷ text) (drop k (b ∷ text)))
+        (sym (space-stop Blanks b text (grind (arith, nat_tests)))) (no-space (b ∷ text))
   ]
 ]
 
 comment-more : (b : ℕ) (text : List ℕ) → Both text → Commented (b ∷ text) (drop (space_from Comment (b ∷ text)) (b ∷ text))
 comment-more b text both = elim (cases_Bool (b == 10)) [
-  | inl feed ↦ at (Commented (b ∷ text)) _ _ b text (space-feed b text feed) (more-feed b text _ (number-is b 10 feed) (feed-is_blank b feed) both.blanks)
-  | inr other ↦ at (Commented (b ∷ text)) _ _ b text (space-in_line b text other) (more-line b text _ (grind (arith, nat_tests)) both.commented)
+  | inl feed ↦ at (Commented (b ∷ text)) _ _ b text (space-feed b text feed)
+      (more-feed b text _ (number-is b 10 feed) (feed-is_blank b feed) both.blanks)
+  | inr other ↦ at (Commented (b ∷ text)) _ _ b text (space-in_line b text other)
+      (more-line b text _ (grind (arith, nat_tests)) both.commented)
 ]
 
 both-is : (text : List ℕ) → Both text
 both-is [] = record {
   blanks = subst (λ (k : ℕ). IsSpaceBefore [] (drop k [])) (sym (space-nil Blanks)) (no-space []);
-  commented = subst (λ (k : ℕ). Commented [] (drop k [])) (sym (space-nil Comment)) (record { line = []; pieces = []; written = refl; whole = refl; ended = tt; are = tt });
+  commented = subst (λ (k : ℕ). Commented [] (drop k [])) (sym (space-nil Comment))
+      (record { line = []; pieces = []; written = refl; whole = refl; ended = tt; are = tt });
 }
 both-is (b ∷ text) = let both = both-is text in record { blanks = blanks-more b text both; commented = comment-more b text both }
 
@@ -184,10 +196,13 @@ space-counted text = (both-is text).blanks
 
 ends-with_none : (within : Within) (text : List ℕ) → Begins begins_space (drop (space_from within text) text) → ⊥
 ends-with_none within [] h = subst (λ (k : ℕ). Begins begins_space (drop k [])) (space-nil within) h
-ends-with_none Comment (b ∷ text) h = ends-with_none (after_byte Comment b) text (subst (λ (k : ℕ). Begins begins_space (drop k (b ∷ text))) (space-step Comment _ b text refl refl) h)
+ends-with_none Comment (b ∷ text) h = ends-with_none (after_byte Comment b) text
+    (subst (λ (k : ℕ). Begins begins_space (drop k (b ∷ text))) (space-step Comment _ b text refl refl) h)
 ends-with_none Blanks (b ∷ text) h = elim (cases_Bool (begins_space b)) [
-  | inl is ↦ ends-with_none (after_byte Blanks b) text (subst (λ (k : ℕ). Begins begins_space (drop k (b ∷ text))) (space-step Blanks _ b text is refl) h)
-  | inr no_space ↦ let is : begins_space b ≡ true = subst (λ (k : ℕ). Begins begins_space (drop k (b ∷ text))) (space-stop Blanks b text no_space) h in
+  | inl is ↦ ends-with_none (after_byte Blanks b) text (subst (λ (k : ℕ). Begins begins_space (drop k (b ∷ text)))
+      (space-step Blanks _ b text is refl) h)
+  | inr no_space ↦ let is : begins_space b ≡ true = subst (λ (k : ℕ). Begins begins_space (drop k (b ∷ text)))
+      (space-stop Blanks b text no_space) h in
       true≢false (sym is ∙ no_space)
 ]
 

@@ -1,5 +1,6 @@
 -- The next token of a text is determined, and so are all of them.
-use Rattle.std.proofs.Common.{◌≡◌, ◌∙◌, sym, ap, subst, refl, ℕ, ◌+◌, ◌-◌, ◌<◌, List, [], ◌∷◌, ◌++◌, true, false, length, take, drop, inl, inr, append_assoc, arith}
+use Rattle.std.proofs.Common.{◌≡◌, ◌∙◌, sym, ap, subst, refl, ℕ, ◌+◌, ◌-◌, ◌<◌, List, [], ◌∷◌, ◌++◌, true, false, length, take, drop, inl}
+use Rattle.std.proofs.Common.{inr, append_assoc, arith}
 use Rattle.std.specs.Bool.{MatchBool}
 use Rattle.std.specs.List.{All}
 use Rattle.std.proofs.lemmas.Bool.{cases_Bool}
@@ -17,7 +18,8 @@ start-is : (text : List ℕ) (from : ℕ) (t : Token) → IsNext text from t →
 start-is text from t h =
     let rest = drop t.start text in
     let counted : space_len (drop from text) + length rest ≡ length (drop from text) =
-    subst (λ (bytes : List ℕ). space_len bytes + length rest ≡ length bytes) h.space.written (space_len-spaced h.space.pieces rest h.space.are h.no_space) in
+    subst (λ (bytes : List ℕ). space_len bytes + length rest ≡ length bytes) h.space.written
+    (space_len-spaced h.space.pieces rest h.space.are h.no_space) in
     omega (arith, counted, h.follows, h.lies.ordered, h.lies.within, length-drop from text, length-drop t.start text)
 
 same_token : (t u : Token) → t.kind ≡ u.kind → t.start ≡ u.start → t.end ≡ u.end → t.place ≡ u.place → t ≡ u
@@ -28,7 +30,8 @@ pub next-same : (text : List ℕ) (from : ℕ) (t u : Token) → IsNext text fro
 next-same text from t u h k =
     let starts : t.start ≡ u.start = start-is text from t h ∙ sym (start-is text from u k) in
     let shapes : ◌≡◌ {A = Shape} (t.kind, t.end - t.start) (u.kind, u.end - u.start) =
-    shape-only t.kind (drop t.start text) (t.end - t.start) h.shape ∙ ap (λ (n : ℕ). shape_of (drop n text)) starts ∙ sym (shape-only u.kind (drop u.start text) (u.end - u.start) k.shape) in
+    shape-only t.kind (drop t.start text) (t.end - t.start) h.shape ∙ ap (λ (n : ℕ). shape_of (drop n text)) starts
+    ∙ sym (shape-only u.kind (drop u.start text) (u.end - u.start) k.shape) in
     let lengths : t.end - t.start ≡ u.end - u.start = ap (λ (s : Shape). s.1) shapes in
     let ends : t.end ≡ u.end = omega (arith, lengths, starts, h.lies.ordered, k.lies.ordered) in
     let places : t.place ≡ u.place = h.place ∙ ap (λ (n : ℕ). place_after (take n text)) starts ∙ sym k.place in
@@ -53,8 +56,12 @@ follow : (text : List ℕ) (from : ℕ) (t : Token) (others : List Token) → Is
     → (more : List Token) × (others ≡ t ∷ more) × MatchBool (is_last t.kind) (more ≡ []) (AreTokensFrom text t.end more)
 follow text from t [] next h = absurd h
 follow text from t (u ∷ more) next h =
-    let same : u ≡ t = next-same text from u t h.0 next in
-    (more, ap (λ (x : Token). x ∷ more) same, subst (λ (x : Token). MatchBool (is_last x.kind) (more ≡ []) (AreTokensFrom text x.end more)) same h.1)
+    let same : u ≡ t = next-same text from u t h.0 next in (
+      more,
+      ap (λ (x : Token). x ∷ more) same,
+      subst (λ (x : Token). MatchBool (is_last x.kind) (more ≡ []) (AreTokensFrom text x.end more))
+          same h.1,
+    )
 
 -- the tokens from a place on are determined
 pub one-list : (text : List ℕ) (from : ℕ) (tokens others : List Token) → AreTokensFrom text from tokens → AreTokensFrom text from others
@@ -73,9 +80,11 @@ one-list text from (t ∷ ts) others h k =
           ap (λ (l : List Token). t ∷ l) (one-list text t.end ts found.0 here there) ∙ sym found.1
     ]
 
-pub read-more : (text : List ℕ) (from : ℕ) (list : List Token) (t : Token) → IsReadTo text from list → IsNext text from t → is_last t.kind ≡ false → IsReadTo text t.end (list ++ t ∷ [])
+pub read-more : (text : List ℕ) (from : ℕ) (list : List Token) (t : Token) → IsReadTo text from list → IsNext text from t → is_last t.kind
+    ≡ false → IsReadTo text t.end (list ++ t ∷ [])
 read-more text from list t read next goes = record {
-  builds = λ more h. subst (λ (l : List Token). IsTokens text l) (sym (append_assoc list (t ∷ []) more)) (read.builds (t ∷ more) (next, goes_on t _ _ goes h));
+  builds = λ more h. subst (λ (l : List Token). IsTokens text l) (sym (append_assoc list (t ∷ []) more))
+      (read.builds (t ∷ more) (next, goes_on t _ _ goes h));
   only = λ others h.
       let found = read.only others h in
       let after = follow text from t found.0 next found.2 in (
@@ -85,10 +94,12 @@ read-more text from list t read next goes = record {
       );
 }
 
-pub read-all : (text : List ℕ) (from : ℕ) (list : List Token) (t : Token) → IsReadTo text from list → IsNext text from t → is_last t.kind ≡ true → IsTokens text (list ++ t ∷ [])
+pub read-all : (text : List ℕ) (from : ℕ) (list : List Token) (t : Token) → IsReadTo text from list → IsNext text from t → is_last t.kind
+    ≡ true → IsTokens text (list ++ t ∷ [])
 read-all text from list t read next ends = read.builds (t ∷ []) (next, ends-here t _ _ ends refl)
 
-pub read-only : (text : List ℕ) (from : ℕ) (list : List Token) (t : Token) → IsReadTo text from list → IsNext text from t → is_last t.kind ≡ true
+pub read-only : (text : List ℕ) (from : ℕ) (list : List Token) (t : Token) → IsReadTo text from list → IsNext text from t → is_last t.kind
+    ≡ true
     → (others : List Token) → IsTokens text others → others ≡ list ++ t ∷ []
 read-only text from list t read next ends others h =
     let found = read.only others h in
@@ -109,5 +120,6 @@ tokens-lie text from (t ∷ more) h = elim (cases_Bool (is_last t.kind)) [
   | inl ends ↦
       let none : more ≡ [] = subst (λ (b : _). MatchBool b (more ≡ []) (AreTokensFrom text t.end more)) ends h.1 in
       lies-more text t more h.0.lies (subst (λ (l : List Token). All (LiesIn text) l) (sym none) (All-nil (LiesIn text)))
-  | inr goes ↦ lies-more text t more h.0.lies (tokens-lie text t.end more (subst (λ (b : _). MatchBool b (more ≡ []) (AreTokensFrom text t.end more)) goes h.1))
+  | inr goes ↦ lies-more text t more h.0.lies (tokens-lie text t.end more
+      (subst (λ (b : _). MatchBool b (more ≡ []) (AreTokensFrom text t.end more)) goes h.1))
 ]

@@ -12,7 +12,8 @@ use Rattle.ft_base.specs.declared.three.Three.TheVariants.{No, Maybe, Yes}
 use Rattle.ft_linear.specs.meaning.Truth.{truth}
 use Rattle.ft_linear.specs.meaning.Forced.{Seen, seen, value_of, forces, and_forces, or_forces, by_each, by_only, same_bool}
 use Rattle.ft_base.specs.Three.{three_all, three_any, three_not, can_be, is_no, is_yes}
-use Rattle.ft_linear.specs.laws.Nodes.{With, bare, Inductive, node_induction, list_any-map, map-map, truth-At, truth-Not, truth-And, truth-Or, value-At, value-Not, value-And, value-Or, forces-At, forces-Not, forces-And, forces-Or}
+use Rattle.ft_linear.specs.laws.Nodes.{With, bare, Inductive, node_induction, list_any-map, map-map, truth-At, truth-Not, truth-And}
+use Rattle.ft_linear.specs.laws.Nodes.{truth-Or, value-At, value-Not, value-And, value-Or, forces-At, forces-Not, forces-And, forces-Or}
 
 -- a value that is open says nothing
 abbrev pub Agrees : Three → Bool → Type 0
@@ -111,7 +112,8 @@ count-no p x xs e = let c = count-cons p x xs in let none : ◌≡◌ {A = ℕ} 
 
 pub count-map : {E F : Type 0} (p : F → Bool) (h : E → F) (xs : List E) → count_by p (map h xs) ≡ count_by (λ x. p (h x)) xs
 count-map p h [] = refl
-count-map p h (x ∷ xs) = count-cons p (h x) (map h xs) ∙ ap (λ n. cond (p (h x)) 1 0 + n) (count-map p h xs) ∙ sym (count-cons (λ y. p (h y)) x xs)
+count-map p h (x ∷ xs) = count-cons p (h x) (map h xs) ∙ ap (λ n. cond (p (h x)) 1 0 + n) (count-map p h xs)
+    ∙ sym (count-cons (λ y. p (h y)) x xs)
 
 -- the only one that can be so is so
 one-is : {E : Type 0} (can is f : E → Bool) → ((e : E) → is e ≡ true → can e ≡ true) → (es : List E)
@@ -152,7 +154,8 @@ only-one can is f h (x ∷ es) n e g = elim (cases_Bool (can x)) [
 ]
 
 -- each is so, and one of them is chosen
-each-one : {E : Type 0} (is f : E → Bool) (es : List E) → list_all is es ≡ true → list_any f es ≡ true → (e : E) × (is e ≡ true) × (f e ≡ true)
+each-one : {E : Type 0} (is f : E → Bool) (es : List E) → list_all is es ≡ true → list_any f es ≡ true → (e : E) × (is e ≡ true)
+    × (f e ≡ true)
 each-one is f [] a g = cc g
 each-one is f (x ∷ es) a g = elim (cases_Bool (is x)) [
   | inl so ↦ elim (cases_Bool (f x)) [
@@ -189,9 +192,19 @@ module _ (atoms : ℕ → Three) (at : ℕ → Bool) (sound : SoundAtoms atoms a
   valued = record {
     at = λ atom. rw (value-At atoms atom, truth-At at atom) (sound atom);
     negated = λ inner h. rw (value-Not atoms inner, truth-Not at inner) (not-agrees (value_of atoms inner) (truth at inner) h);
-    all = λ parts. rw (value-And atoms (bare parts), truth-And at (bare parts), map-map (value_of atoms) (λ e. e.0) parts, list_all-map (truth at) (λ e. e.0) parts)
+    all = λ parts. rw (
+      value-And atoms (bare parts),
+      truth-And at (bare parts),
+      map-map (value_of atoms) (λ e. e.0) parts,
+      list_all-map (truth at) (λ e. e.0) parts,
+    )
         (all-agrees (λ e. value_of atoms e.0) (λ e. truth at e.0) (λ e. e.1) parts);
-    any = λ parts. rw (value-Or atoms (bare parts), truth-Or at (bare parts), map-map (value_of atoms) (λ e. e.0) parts, list_any-map (truth at) (λ e. e.0) parts)
+    any = λ parts. rw (
+      value-Or atoms (bare parts),
+      truth-Or at (bare parts),
+      map-map (value_of atoms) (λ e. e.0) parts,
+      list_any-map (truth at) (λ e. e.0) parts,
+    )
         (any-agrees (λ e. value_of atoms e.0) (λ e. truth at e.0) (λ e. e.1) parts);
   }
 
@@ -229,8 +242,10 @@ module _ (atoms : ℕ → Three) (at : ℕ → Bool) (sound : SoundAtoms atoms a
         → by_each (map (seen atoms) (bare parts)) want atom sign ≡ true → at atom ≡ sign
     each-part want so e =
         let picked : list_any (λ (x : With Forced). (sees x).1 want atom sign) parts ≡ true =
-        sym (list_any-map (λ (s : Seen). s.1 want atom sign) sees parts) ∙ ap (λ (ss : List Seen). list_any (λ (s : Seen). s.1 want atom sign) ss) (sym same-parts) ∙ e in
-        let (x, is, f) = each-one (λ (x : With Forced). same_bool want (truth at x.0)) (λ (x : With Forced). (sees x).1 want atom sign) parts so picked in
+        sym (list_any-map (λ (s : Seen). s.1 want atom sign) sees parts)
+        ∙ ap (λ (ss : List Seen). list_any (λ (s : Seen). s.1 want atom sign) ss) (sym same-parts) ∙ e in
+        let (x, is, f) = each-one (λ (x : With Forced). same_bool want (truth at x.0)) (λ (x : With Forced). (sees x).1 want atom sign)
+        parts so picked in
         x.1 want atom sign (sym (same-bools want (truth at x.0) is)) f
 
     only-part : (want : Bool) → list_any (λ (e : With Forced). same_bool want (truth at e.0)) parts ≡ true
@@ -241,28 +256,35 @@ module _ (atoms : ℕ → Three) (at : ℕ → Bool) (sound : SoundAtoms atoms a
         sym (count-map (λ (s : Seen). can_be want s.0) sees parts) ∙ eqb-true _ 1 g in
         let picked : list_any (λ (x : With Forced). can_be want (sees x).0 && (sees x).1 want atom sign) parts ≡ true =
         sym (list_any-map (λ (s : Seen). can_be want s.0 && s.1 want atom sign) sees parts) ∙ f in
-        let (x, is, f) = only-one (λ (x : With Forced). can_be want (sees x).0) (λ (x : With Forced). same_bool want (truth at x.0)) (λ (x : With Forced). (sees x).1 want atom sign)
-        (λ x same. so-can (sees x).0 (truth at x.0) want (value_agrees atoms at x.0 sound) (sym (same-bools want (truth at x.0) same))) parts one so picked in
+        let (x, is, f) = only-one (λ (x : With Forced). can_be want (sees x).0) (λ (x : With Forced). same_bool want (truth at x.0))
+        (λ (x : With Forced). (sees x).1 want atom sign)
+        (λ x same. so-can (sees x).0 (truth at x.0) want (value_agrees atoms at x.0 sound) (sym (same-bools want (truth at x.0) same)))
+        parts one so picked in
         x.1 want atom sign (sym (same-bools want (truth at x.0) is)) f
 
   all-parts : (parts : List (With Forced)) (want : Bool) (atom : ℕ) (sign : Bool) → truth at (And (bare parts)) ≡ want
       → and_forces (map (seen atoms) (bare parts)) want atom sign ≡ true → at atom ≡ sign
   all-parts parts true atom sign is e =
-      each-part parts atom sign true (sym (list_all-map (truth at) (λ (x : With Forced). x.0) parts) ∙ sym (truth-And at (bare parts)) ∙ is) e
+      each-part parts atom sign true (sym (list_all-map (truth at) (λ (x : With Forced). x.0) parts) ∙ sym (truth-And at (bare parts)) ∙ is)
+      e
   all-parts parts false atom sign is e =
-      only-part parts atom sign false (not-all (λ (x : With Forced). truth at x.0) parts (sym (list_all-map (truth at) (λ (x : With Forced). x.0) parts) ∙ sym (truth-And at (bare parts)) ∙ is)) e
+      only-part parts atom sign false (not-all (λ (x : With Forced). truth at x.0) parts
+      (sym (list_all-map (truth at) (λ (x : With Forced). x.0) parts) ∙ sym (truth-And at (bare parts)) ∙ is)) e
 
   any-parts : (parts : List (With Forced)) (want : Bool) (atom : ℕ) (sign : Bool) → truth at (Or (bare parts)) ≡ want
       → or_forces (map (seen atoms) (bare parts)) want atom sign ≡ true → at atom ≡ sign
   any-parts parts true atom sign is e =
-      only-part parts atom sign true (sym (list_any-map (truth at) (λ (x : With Forced). x.0) parts) ∙ sym (truth-Or at (bare parts)) ∙ is) e
+      only-part parts atom sign true (sym (list_any-map (truth at) (λ (x : With Forced). x.0) parts) ∙ sym (truth-Or at (bare parts)) ∙ is)
+      e
   any-parts parts false atom sign is e =
-      each-part parts atom sign false (not-any (λ (x : With Forced). truth at x.0) parts (sym (list_any-map (truth at) (λ (x : With Forced). x.0) parts) ∙ sym (truth-Or at (bare parts)) ∙ is)) e
+      each-part parts atom sign false (not-any (λ (x : With Forced). truth at x.0) parts
+      (sym (list_any-map (truth at) (λ (x : With Forced). x.0) parts) ∙ sym (truth-Or at (bare parts)) ∙ is)) e
 
   forced-all : Inductive Forced
   forced-all = record {
     at = λ a want atom sign is e. at-leaf a atom want sign (sym (truth-At at a) ∙ is) (sym (forces-At atoms want atom sign a) ∙ e);
-    negated = λ inner h want atom sign is e. h (not want) atom sign (other-way (truth at inner) want (sym (truth-Not at inner) ∙ is)) (sym (forces-Not atoms want atom sign inner) ∙ e);
+    negated = λ inner h want atom sign is e. h (not want) atom sign (other-way (truth at inner) want (sym (truth-Not at inner) ∙ is))
+        (sym (forces-Not atoms want atom sign inner) ∙ e);
     all = λ parts want atom sign is e. all-parts parts want atom sign is (sym (forces-And atoms want atom sign (bare parts)) ∙ e);
     any = λ parts want atom sign is e. any-parts parts want atom sign is (sym (forces-Or atoms want atom sign (bare parts)) ∙ e);
   }

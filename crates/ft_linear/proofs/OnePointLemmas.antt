@@ -1,5 +1,6 @@
 -- A part whose spans have one value each isn't Maybe.
-use Rattle.std.proofs.Common.{◌≡◌, ◌∙◌, inl, inr, sym, ap, refl, ℕ, zero, suc, ◌+◌, ◌<◌, ℤ, pos, ◌+ℤ◌, ◌*ℤ◌, Bool, true, false, ◌&&◌, ◌||◌, cond, List, [], ◌∷◌, length, map, Option, Some, None, arith}
+use Rattle.std.proofs.Common.{◌≡◌, ◌∙◌, inl, inr, sym, ap, refl, ℕ, zero, suc, ◌+◌, ◌<◌, ℤ, pos, ◌+ℤ◌, ◌*ℤ◌, Bool, true, false, ◌&&◌, ◌||◌}
+use Rattle.std.proofs.Common.{cond, List, [], ◌∷◌, length, map, Option, Some, None, arith}
 use Rattle.std.specs.Prelude.{int_lt, int_le, nat_lt, slice_index_or}
 use Rattle.std.specs.List.{list_any, list_all, range_with_len}
 use Rattle.std.proofs.lemmas.Bool.{cases_Bool, and_parts}
@@ -12,9 +13,11 @@ use Rattle.ft_linear.specs.meaning.Form.{LinView, Factor, span_at, most, least, 
 use Rattle.ft_linear.specs.meaning.Formula.{atoms_below}
 use Rattle.ft_base.specs.Three.{is_no, is_yes, three_not, three_all, three_any}
 use Rattle.ft_linear.specs.meaning.Forced.{value_of}
-use Rattle.ft_linear.specs.meaning.Part.{fixed_form, fixed, decision, value_by, atom_value, against, agrees, is_against, is_agreed, is_forced_both, atoms_of}
+use Rattle.ft_linear.specs.meaning.Part.{fixed_form, fixed, decision, value_by, atom_value, against, agrees, is_against, is_agreed}
+use Rattle.ft_linear.specs.meaning.Part.{is_forced_both, atoms_of}
 use Rattle.ft_linear.specs.laws.Parts.{SettledAtOnePoint}
-use Rattle.ft_linear.specs.laws.Nodes.{Inductive, With, bare, node_induction, value-At, value-Not, value-And, value-Or, below-At, below-Not, below-And, below-Or}
+use Rattle.ft_linear.specs.laws.Nodes.{Inductive, With, bare, node_induction, value-At, value-Not, value-And, value-Or, below-At, below-Not}
+use Rattle.ft_linear.specs.laws.Nodes.{below-And, below-Or}
 
 module _ (spans : List (ℤ × ℤ)) (single : (u : ℕ) → (span_at spans u).0 ≡ (span_at spans u).1) where
   same-ends : (g : ℤ) (s : ℤ × ℤ) → s.0 ≡ s.1 → low_end g s ≡ high_end g s
@@ -136,9 +139,11 @@ by-answer Yes false false false s h e = cc (h refl)
 
 pub settled-at-one-point : SettledAtOnePoint
 settled-at-one-point f p below single e =
-    by-answer (value_of (atom_value f p) f.root) (list_any (is_against f p) (atoms_of f)) (list_any (is_forced_both f p) (atoms_of f)) (list_all (is_agreed f p) (atoms_of f))
+    by-answer (value_of (atom_value f p) f.root) (list_any (is_against f p) (atoms_of f)) (list_any (is_forced_both f p) (atoms_of f))
+    (list_all (is_agreed f p) (atoms_of f))
     (settled-node (atom_value f p) (length f.atoms) (λ a within. settled-by (decision p a) (fixed f p a) (fixed-at a within)) f.root below)
-    (λ none. some-against (is_agreed f p) (is_against f p) 0 (length f.atoms) (λ a within. agreed-or-against (decision p a) (fixed f p a) (fixed-at a (omega (arith, within)))) none)
+    (λ none. some-against (is_agreed f p) (is_against f p) 0 (length f.atoms)
+    (λ a within. agreed-or-against (decision p a) (fixed f p a) (fixed-at a (omega (arith, within)))) none)
     e
   where
     fixed-at : (a : ℕ) → a < length f.atoms → IsSettled (fixed f p a)

@@ -1,5 +1,6 @@
 -- From the truth, the forced literals and the sums of a part to its points.
-use Rattle.std.proofs.Common.{◌≡◌, ◌∙◌, inl, inr, sym, ap, refl, ℕ, zero, suc, ◌+◌, ◌<◌, ◌≤◌, Bool, true, false, not, ◌||◌, cond, length, arith}
+use Rattle.std.proofs.Common.{◌≡◌, ◌∙◌, inl, inr, sym, ap, refl, ℕ, zero, suc, ◌+◌, ◌<◌, ◌≤◌, Bool, true, false, not, ◌||◌, cond, length}
+use Rattle.std.proofs.Common.{arith}
 use Rattle.std.specs.List.{list_any, range_with_len}
 use Rattle.std.proofs.lemmas.Bool.{cases_Bool, cases_eq, and_from}
 use Rattle.ft_base.specs.declared.three.Three.{Three}
@@ -31,7 +32,8 @@ so-same false b e = ap not e
 pub differences-met : DifferencesAreMet
 differences-met f p x over point sat = record {
   inside = point.0;
-  meets = λ a s l is got difference. at-most-zero _ (literals-hold x s l ∙ so-same s _ (sym (ap (form_truth x) got) ∙ forced-point f p x over point a s sat is));
+  meets = λ a s l is got difference. at-most-zero _ (literals-hold x s l
+      ∙ so-same s _ (sym (ap (form_truth x) got) ∙ forced-point f p x over point a s sat is));
 }
 
 any-in-range : (q : ℕ → Bool) (from n a : ℕ) → from ≤ a → a < from + n → q a ≡ true → list_any q (range_with_len from n) ≡ true
@@ -52,7 +54,8 @@ by-third false false c t e = ap (λ d. cond d No t) e
 pub no-where-both-ways : NoWhereBothWays
 no-where-both-ways f p a below yes_forced no_forced =
     let both : is_forced_both f p a ≡ true = and_from (forced f p a true) (forced f p a false) yes_forced no_forced in
-    by-third (is_no (value_of (atom_value f p) f.root)) (list_any (is_against f p) (atoms_of f)) (list_any (is_forced_both f p) (atoms_of f)) _
+    by-third (is_no (value_of (atom_value f p) f.root)) (list_any (is_against f p) (atoms_of f))
+    (list_any (is_forced_both f p) (atoms_of f)) _
     (any-in-range (is_forced_both f p) 0 (length f.atoms) a (omega arith) (omega (arith, below)) both)
 
 pub none-where-contradicted : NoneWhereContradicted

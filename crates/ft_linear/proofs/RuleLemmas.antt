@@ -1,5 +1,7 @@
 -- Lines and their sums: what is read of them, which unknowns cancel, and what they say of points.
-use Rattle.std.proofs.Common.{◌≡◌, ◌≢◌, ◌∙◌, ◌⊎◌, inl, inr, sym, ap, subst, refl, ℕ, zero, suc, ◌+◌, ◌<◌, ℤ, pos, negsuc, neg_ℤ, ◌+ℤ◌, ◌*ℤ◌, ◌≤ℤ◌, ◌<ℤ◌, Bool, true, false, ◌&&◌, ◌||◌, cond, List, [], ◌∷◌, ◌++◌, length, take, drop, Option, Some, None, slice_get, arith}
+use Rattle.std.proofs.Common.{◌≡◌, ◌≢◌, ◌∙◌, ◌⊎◌, inl, inr, sym, ap, subst, refl, ℕ, zero, suc, ◌+◌, ◌<◌, ℤ, pos, negsuc, neg_ℤ, ◌+ℤ◌, ◌*ℤ◌}
+use Rattle.std.proofs.Common.{◌≤ℤ◌, ◌<ℤ◌, Bool, true, false, ◌&&◌, ◌||◌, cond, List, [], ◌∷◌, ◌++◌, length, take, drop, Option, Some, None}
+use Rattle.std.proofs.Common.{slice_get, arith}
 use Rattle.std.specs.Prelude.{nat_eq, int_lt, int_le, nat_lt, slice_index_or, is_some, IfSome}
 use Rattle.std.specs.Ordering.{int_eq}
 use Rattle.std.specs.List.{list_all}
@@ -16,10 +18,13 @@ use Rattle.ft_linear.specs.declared.lines.Line.TheVariants.{Atom, Upper, Lower}
 use Rattle.ft_linear.specs.meaning.Form.{Factor, LinView, AreRising, InArea, sum_at, form_at, span_at, scaled}
 use Rattle.ft_linear.specs.meaning.Formula.{FormulaView, form_truth}
 use Rattle.ft_linear.specs.meaning.Part.{PartView, forced}
-use Rattle.ft_linear.specs.meaning.Rules.{Contradicts, HoldsForced, Tightens, is_line, is_multiplier, line_form, literal_form, upper_form, lower_form, times_of, factor_of, factors_in, constant_in, total_factor, total_constant, narrowed, up_to, down_to}
+use Rattle.ft_linear.specs.meaning.Rules.{Contradicts, HoldsForced, Tightens, is_line, is_multiplier, line_form, literal_form, upper_form}
+use Rattle.ft_linear.specs.meaning.Rules.{lower_form, times_of, factor_of, factors_in, constant_in, total_factor, total_constant, narrowed}
+use Rattle.ft_linear.specs.meaning.Rules.{up_to, down_to}
 use Rattle.ft_linear.specs.summing.Cancelling.{is_kept, is_cancelled, are_cancelled}
 use Rattle.ft_linear.proofs.Whole.{times-up, mul-add, neg-mul, mul-neg, under-floor}
-use Rattle.ft_linear.proofs.UnknownLemmas.{cancels, alone, sum-append, sum-scaled, times-none, equal-to-itself, not-equal, factor_of-append, factor_of-scaled, factor_of-negated, sum-negated}
+use Rattle.ft_linear.proofs.UnknownLemmas.{cancels, alone, sum-append, sum-scaled, times-none, equal-to-itself, not-equal, factor_of-append}
+use Rattle.ft_linear.proofs.UnknownLemmas.{factor_of-scaled, factor_of-negated, sum-negated}
 use Rattle.ft_linear.proofs.Basics.{at-most-zero, is-zero}
 
 -- an unknown below those of a form has the factor 0, and the first factor of an unknown is its only one
@@ -30,7 +35,8 @@ none-below from u (f ∷ fs) h below =
     let r = none-below (f.0 + 1) u fs h.3 (omega (arith, h.0, below)) in
     ap (λ (b : Bool). cond b f.1 (pos 0) +ℤ factor_of u fs) other ∙ ap (λ (z : ℤ). pos 0 +ℤ z) r
 
-pub first-found : (from : ℕ) (fs : List Factor) (i : ℕ) (d : Factor) → AreRising from fs → i < length fs → factor_of (slice_index_or fs i d).0 (drop i fs) ≡ (slice_index_or fs i d).1
+pub first-found : (from : ℕ) (fs : List Factor) (i : ℕ) (d : Factor) → AreRising from fs → i < length fs
+    → factor_of (slice_index_or fs i d).0 (drop i fs) ≡ (slice_index_or fs i d).1
 first-found from [] i d h within = absurd (omega (arith, within))
 first-found from (f ∷ fs) zero d h within =
     let r = none-below (f.0 + 1) f.0 fs h.3 (omega arith) in
@@ -44,14 +50,16 @@ above-none : (k : ℕ) → pos 0 <ℤ pos (suc k)
 above-none k = omega (arith, ints)
 
 pub narrowed-up : (g c : ℤ) (s : ℤ × ℤ) → pos 0 <ℤ g → narrowed g c s ≡ up_to s (floor_of (neg_ℤ c) g)
-narrowed-up g c s above = ap (λ (b : Bool). cond b (up_to s (floor_of (neg_ℤ c) g)) (cond (int_lt g (pos 0)) (down_to s (neg_ℤ (floor_of (neg_ℤ c) (neg_ℤ g)))) None)) (so g above)
+narrowed-up g c s above = ap (λ (b : Bool). cond b (up_to s (floor_of (neg_ℤ c) g))
+    (cond (int_lt g (pos 0)) (down_to s (neg_ℤ (floor_of (neg_ℤ c) (neg_ℤ g)))) None)) (so g above)
   where
     so : (g : ℤ) → pos 0 <ℤ g → int_lt (pos 0) g ≡ true
     so g h = grind (arith, ints)
 
 pub narrowed-down : (g c : ℤ) (s : ℤ × ℤ) → g <ℤ pos 0 → narrowed g c s ≡ down_to s (neg_ℤ (floor_of (neg_ℤ c) (neg_ℤ g)))
 narrowed-down g c s below =
-    ap (λ (b : Bool). cond b (up_to s (floor_of (neg_ℤ c) g)) (cond (int_lt g (pos 0)) (down_to s (neg_ℤ (floor_of (neg_ℤ c) (neg_ℤ g)))) None)) (isnt g below)
+    ap (λ (b : Bool). cond b (up_to s (floor_of (neg_ℤ c) g)) (cond (int_lt g (pos 0)) (down_to s (neg_ℤ (floor_of (neg_ℤ c) (neg_ℤ g))))
+    None)) (isnt g below)
     ∙ ap (λ (b : Bool). cond b (down_to s (neg_ℤ (floor_of (neg_ℤ c) (neg_ℤ g)))) None) (so g below)
   where
     isnt : (g : ℤ) → g <ℤ pos 0 → int_lt (pos 0) g ≡ false
@@ -61,17 +69,20 @@ narrowed-down g c s below =
     so g h = grind (arith, ints)
 
 module _ (f : FormulaView) (p : PartView) where
-  factor-push : (u : ℕ) (ls : List Line) (l : Line) → total_factor f p u (ls ++ l ∷ []) ≡ total_factor f p u ls +ℤ (pos (times_of l) *ℤ factor_of u (factors_in (line_form f p l)))
+  factor-push : (u : ℕ) (ls : List Line) (l : Line) → total_factor f p u (ls ++ l ∷ []) ≡ total_factor f p u ls
+      +ℤ (pos (times_of l) *ℤ factor_of u (factors_in (line_form f p l)))
   factor-push u [] l = omega (arith, ints)
   factor-push u (m ∷ ls) l = let r = factor-push u ls l in omega (arith, ints, r)
 
-  constant-push : (ls : List Line) (l : Line) → total_constant f p (ls ++ l ∷ []) ≡ total_constant f p ls +ℤ (pos (times_of l) *ℤ constant_in (line_form f p l))
+  constant-push : (ls : List Line) (l : Line) → total_constant f p (ls ++ l ∷ []) ≡ total_constant f p ls
+      +ℤ (pos (times_of l) *ℤ constant_in (line_form f p l))
   constant-push [] l = omega (arith, ints)
   constant-push (m ∷ ls) l = let r = constant-push ls l in omega (arith, ints, r)
 
   module _ (ls : List Line) (i : ℕ) (d : Line) (within : i < length ls) where
     pub factor-more : (u : ℕ) → total_factor f p u (take (i + 1) ls)
-        ≡ total_factor f p u (take i ls) +ℤ (pos (times_of (slice_index_or ls i d)) *ℤ factor_of u (factors_in (line_form f p (slice_index_or ls i d))))
+        ≡ total_factor f p u (take i ls) +ℤ (pos (times_of (slice_index_or ls i d)) *ℤ factor_of u
+        (factors_in (line_form f p (slice_index_or ls i d))))
     factor-more u = ap (total_factor f p u) (take_more ls i d within) ∙ factor-push u (take i ls) (slice_index_or ls i d)
 
     pub constant-more : total_constant f p (take (i + 1) ls)
@@ -106,10 +117,12 @@ module _ (f : FormulaView) (p : PartView) where
           ]
         ]
 
-    in-lines : (v : ℕ) (ls : List Line) → list_all (λ l. list_all (λ (g : Factor). q g.0) (factors_in (line_form f p l))) ls ≡ true → (q v ≡ true) ⊎ (total_factor f p v ls ≡ pos 0)
+    in-lines : (v : ℕ) (ls : List Line) → list_all (λ l. list_all (λ (g : Factor). q g.0) (factors_in (line_form f p l))) ls ≡ true
+        → (q v ≡ true) ⊎ (total_factor f p v ls ≡ pos 0)
     in-lines v [] e = inr refl
     in-lines v (l ∷ ls) e =
-        let (here, rest) = and_parts (list_all (λ (g : Factor). q g.0) (factors_in (line_form f p l))) (list_all (λ l. list_all (λ (g : Factor). q g.0) (factors_in (line_form f p l))) ls) e in
+        let (here, rest) = and_parts (list_all (λ (g : Factor). q g.0) (factors_in (line_form f p l)))
+        (list_all (λ l. list_all (λ (g : Factor). q g.0) (factors_in (line_form f p l))) ls) e in
         elim (in-factors v (factors_in (line_form f p l)) here) [
           | inl so ↦ inl so
           | inr none ↦ elim (in-lines v ls rest) [
@@ -122,9 +135,11 @@ module _ (f : FormulaView) (p : PartView) where
     of-factors h [] = refl
     of-factors h (g ∷ fs) = ap (λ b. b && list_all (λ (g : Factor). q g.0) fs) (h g.0) ∙ of-factors h fs
 
-    pub of-lines : ((v : ℕ) → q v ≡ true) → (ls : List Line) → list_all (λ l. list_all (λ (g : Factor). q g.0) (factors_in (line_form f p l))) ls ≡ true
+    pub of-lines : ((v : ℕ) → q v ≡ true) → (ls : List Line) → list_all
+        (λ l. list_all (λ (g : Factor). q g.0) (factors_in (line_form f p l))) ls ≡ true
     of-lines h [] = refl
-    of-lines h (l ∷ ls) = ap (λ b. b && list_all (λ l. list_all (λ (g : Factor). q g.0) (factors_in (line_form f p l))) ls) (of-factors h (factors_in (line_form f p l))) ∙ of-lines h ls
+    of-lines h (l ∷ ls) = ap (λ b. b && list_all (λ l. list_all (λ (g : Factor). q g.0) (factors_in (line_form f p l))) ls)
+        (of-factors h (factors_in (line_form f p l))) ∙ of-lines h ls
 
   module _ (ls : List Line) (kept : Option ℕ) where
     zero-is : (z : ℤ) → z ≡ pos 0 → int_eq z (pos 0) ≡ true
@@ -138,7 +153,8 @@ module _ (f : FormulaView) (p : PartView) where
     so-or true c h = refl
     so-or false c h = h refl
 
-    pub cancel : list_all (λ l. are_cancelled f p ls kept (factors_in (line_form f p l))) ls ≡ true → (v : ℕ) → is_kept kept v ≡ false → total_factor f p v ls ≡ pos 0
+    pub cancel : list_all (λ l. are_cancelled f p ls kept (factors_in (line_form f p l))) ls ≡ true → (v : ℕ) → is_kept kept v ≡ false
+        → total_factor f p v ls ≡ pos 0
     cancel e v other = elim (in-lines (is_cancelled f p ls kept) v ls e) [
       | inl so ↦ is-zero (total_factor f p v ls) (or-so (is_kept kept v) (int_eq (total_factor f p v ls) (pos 0)) so other)
       | inr none ↦ none
@@ -152,7 +168,8 @@ module _ (f : FormulaView) (p : PartView) where
   lines-cancelled ls kept h l = of-factors (is_cancelled f p ls kept) (cancelled ls kept h) (factors_in (line_form f p l))
 
   module _ (x : ℕ → ℤ) (area : InArea p.spans x) (holds : HoldsForced f p x) where
-    literal-holds : (value : Bool) (o : Option LinView) → form_truth x o ≡ value → (sum_at x (factors_in (option_map (literal_form value) o)) +ℤ constant_in (option_map (literal_form value) o)) ≤ℤ pos 0
+    literal-holds : (value : Bool) (o : Option LinView) → form_truth x o ≡ value
+        → (sum_at x (factors_in (option_map (literal_form value) o)) +ℤ constant_in (option_map (literal_form value) o)) ≤ℤ pos 0
     literal-holds value None e = omega (arith, ints)
     literal-holds true (Some l) e = at-most-zero (form_at x l) e
     literal-holds false (Some l) e = let t = sum-negated x l.factors in let a = above-zero (form_at x l) e in omega (arith, ints, t, a)
@@ -163,13 +180,16 @@ module _ (f : FormulaView) (p : PartView) where
     one-times : (z : ℤ) → pos 1 *ℤ z ≡ z
     one-times z = omega (arith, ints)
 
-    upper-holds : (u : ℕ) (o : Option (ℤ × ℤ)) → ((s : ℤ × ℤ) → o ≡ Some s → IsWithin s (x u)) → (sum_at x (factors_in (option_map (upper_form u) o)) +ℤ constant_in (option_map (upper_form u) o)) ≤ℤ pos 0
+    upper-holds : (u : ℕ) (o : Option (ℤ × ℤ)) → ((s : ℤ × ℤ) → o ≡ Some s → IsWithin s (x u))
+        → (sum_at x (factors_in (option_map (upper_form u) o)) +ℤ constant_in (option_map (upper_form u) o)) ≤ℤ pos 0
     upper-holds u None h = omega (arith, ints)
     upper-holds u (Some s) h = let w = (h s refl).1 in let t = one-times (x u) in omega (arith, ints, w, t)
 
-    lower-holds : (u : ℕ) (o : Option (ℤ × ℤ)) → ((s : ℤ × ℤ) → o ≡ Some s → IsWithin s (x u)) → (sum_at x (factors_in (option_map (lower_form u) o)) +ℤ constant_in (option_map (lower_form u) o)) ≤ℤ pos 0
+    lower-holds : (u : ℕ) (o : Option (ℤ × ℤ)) → ((s : ℤ × ℤ) → o ≡ Some s → IsWithin s (x u))
+        → (sum_at x (factors_in (option_map (lower_form u) o)) +ℤ constant_in (option_map (lower_form u) o)) ≤ℤ pos 0
     lower-holds u None h = omega (arith, ints)
-    lower-holds u (Some s) h = let w = (h s refl).0 in let n = neg-mul (pos 1) (x u) in let t = one-times (x u) in omega (arith, ints, w, n, t)
+    lower-holds u (Some s) h = let w = (h s refl).0 in let n = neg-mul (pos 1) (x u) in let t = one-times (x u) in
+        omega (arith, ints, w, n, t)
 
     line-holds : (l : Line) → (sum_at x (factors_in (line_form f p l)) +ℤ constant_in (line_form f p l)) ≤ℤ pos 0
     line-holds (Atom number value times) = elim (cases_Bool (forced f p number value)) [
@@ -200,7 +220,8 @@ module _ (f : FormulaView) (p : PartView) where
         let h = c.positive in
         absurd (omega (arith, ints, s, e, h))
 
-    one-left : (u : ℕ) (ls : List Line) → ((v : ℕ) → v ≢ u → total_factor f p v ls ≡ pos 0) → ((total_factor f p u ls *ℤ x u) +ℤ total_constant f p ls) ≤ℤ pos 0
+    one-left : (u : ℕ) (ls : List Line) → ((v : ℕ) → v ≢ u → total_factor f p v ls ≡ pos 0)
+        → ((total_factor f p u ls *ℤ x u) +ℤ total_constant f p ls) ≤ℤ pos 0
     one-left u ls only =
         let s = sum-holds ls in
         let e = alone x u (combined ls) (λ v other. total-is v ls ∙ only v other) in
@@ -218,18 +239,22 @@ module _ (f : FormulaView) (p : PartView) where
     narrow-within : (g c y : ℤ) (s t : ℤ × ℤ) → IsWithin s y → ((g *ℤ y) +ℤ c) ≤ℤ pos 0 → narrowed g c s ≡ Some t → IsWithin t y
     narrow-within (pos zero) c y s t within h e = cc e
     narrow-within (pos (suc k)) c y s t within h e =
-        up-within s t (floor_of (neg_ℤ c) (pos (suc k))) y within (under-floor y (neg_ℤ c) (suc k) (omega arith) (omega (arith, ints, h))) (sym (narrowed-up (pos (suc k)) c s (above-none k)) ∙ e)
+        up-within s t (floor_of (neg_ℤ c) (pos (suc k))) y within (under-floor y (neg_ℤ c) (suc k) (omega arith) (omega (arith, ints, h)))
+        (sym (narrowed-up (pos (suc k)) c s (above-none k)) ∙ e)
     narrow-within (negsuc k) c y s t within h e =
         let n = neg-mul (pos (suc k)) y in
         let m = mul-neg (pos (suc k)) y in
         let low = under-floor (neg_ℤ y) (neg_ℤ c) (suc k) (omega arith) (omega (arith, ints, h, n, m)) in
         down-within s t (neg_ℤ (floor_of (neg_ℤ c) (pos (suc k)))) y within (omega (arith, ints, low)) e
 
-    pub within-tightened : (u : ℕ) (ls : List Line) (t : ℤ × ℤ) → IsWithin (span_at p.spans u) (x u) → Tightens f p u ls t → IsWithin t (x u)
-    within-tightened u ls t within h = narrow-within (total_factor f p u ls) (total_constant f p ls) (x u) (span_at p.spans u) t within (one-left u ls h.alone) h.narrows
+    pub within-tightened : (u : ℕ) (ls : List Line) (t : ℤ × ℤ) → IsWithin (span_at p.spans u) (x u) → Tightens f p u ls t
+        → IsWithin t (x u)
+    within-tightened u ls t within h = narrow-within (total_factor f p u ls) (total_constant f p ls) (x u) (span_at p.spans u) t within
+        (one-left u ls h.alone) h.narrows
 
 -- what is read of a literal's line
-module _ (f : FormulaView) (p : PartView) (number : ℕ) (value : Bool) (times : ℕ) (l : LinView) (line : Line) (is : line ≡ Atom number value times) (takes : is_line f p line ≡ true)
+module _ (f : FormulaView) (p : PartView) (number : ℕ) (value : Bool) (times : ℕ) (l : LinView) (line : Line)
+    (is : line ≡ Atom number value times) (takes : is_line f p line ≡ true)
     (atoms : List LinView) (same : atoms ≡ f.atoms) (item : l ≡ slice_index_or atoms number l) where
   some-form : is_some (cond (forced f p number value) (option_map (literal_form value) (slice_get f.atoms number)) None) ≡ true
   some-form = (and_parts (is_multiplier times) (is_some (line_form f p (Atom number value times))) (ap (is_line f p) (sym is) ∙ takes)).1
@@ -241,32 +266,39 @@ module _ (f : FormulaView) (p : PartView) (number : ℕ) (value : Bool) (times :
   there : number < length f.atoms
   there = elim (cases_Bool (nat_lt number (length f.atoms))) [
     | inl below ↦ grind (arith, below)
-    | inr above ↦ absurd (never (forced f p number value) (slice_get f.atoms number) (slice_get_past f.atoms number (grind (arith, above))) some-form)
+    | inr above ↦ absurd (never (forced f p number value) (slice_get f.atoms number) (slice_get_past f.atoms number (grind (arith, above)))
+        some-form)
   ]
 
   got : slice_get f.atoms number ≡ Some l
   got = slice_get_read f.atoms (length f.atoms) number l refl there (item ∙ ap (λ (xs : List LinView). slice_index_or xs number l) same)
 
-  is-form : (b : Bool) (o : Option LinView) → is_some (cond b (option_map (literal_form value) o) None) ≡ true → o ≡ Some l → cond b (option_map (literal_form value) o) None ≡ Some (literal_form value l)
+  is-form : (b : Bool) (o : Option LinView) → is_some (cond b (option_map (literal_form value) o) None) ≡ true → o ≡ Some l
+      → cond b (option_map (literal_form value) o) None ≡ Some (literal_form value l)
   is-form true o some e = ap (option_map (literal_form value)) e
   is-form false o some e = cc some
 
   form-is : line_form f p line ≡ Some (literal_form value l)
   form-is = ap (line_form f p) is ∙ is-form (forced f p number value) (slice_get f.atoms number) some-form got
 
-  by-sign : (value : Bool) (u : ℕ) → cond value (factor_of u l.factors) (neg_ℤ (factor_of u l.factors)) ≡ factor_of u (literal_form value l).factors
+  by-sign : (value : Bool) (u : ℕ) → cond value (factor_of u l.factors) (neg_ℤ (factor_of u l.factors))
+      ≡ factor_of u (literal_form value l).factors
   by-sign true u = refl
   by-sign false u = sym (factor_of-negated u l.factors)
 
-  pub literal-factor : (u : ℕ) → cond value (factor_of u l.factors) (neg_ℤ (factor_of u l.factors)) ≡ factor_of u (factors_in (line_form f p line))
+  pub literal-factor : (u : ℕ) → cond value (factor_of u l.factors) (neg_ℤ (factor_of u l.factors))
+      ≡ factor_of u (factors_in (line_form f p line))
   literal-factor u = by-sign value u ∙ sym (ap (λ (o : Option LinView). factor_of u (factors_in o)) form-is)
 
-  same-unknowns : (value : Bool) (q : ℕ → Bool) → list_all (λ (g : Factor). q g.0) l.factors ≡ list_all (λ (g : Factor). q g.0) (literal_form value l).factors
+  same-unknowns : (value : Bool) (q : ℕ → Bool) → list_all (λ (g : Factor). q g.0) l.factors
+      ≡ list_all (λ (g : Factor). q g.0) (literal_form value l).factors
   same-unknowns true q = refl
   same-unknowns false q = sym (list_all-map (λ (g : Factor). q g.0) (λ (g : Factor). (g.0, neg_ℤ g.1)) l.factors)
 
-  pub literal-cancelled : (ls : List Line) (kept : Option ℕ) → are_cancelled f p ls kept l.factors ≡ are_cancelled f p ls kept (factors_in (line_form f p line))
-  literal-cancelled ls kept = same-unknowns value (is_cancelled f p ls kept) ∙ sym (ap (λ (o : Option LinView). are_cancelled f p ls kept (factors_in o)) form-is)
+  pub literal-cancelled : (ls : List Line) (kept : Option ℕ) → are_cancelled f p ls kept l.factors
+      ≡ are_cancelled f p ls kept (factors_in (line_form f p line))
+  literal-cancelled ls kept = same-unknowns value (is_cancelled f p ls kept)
+      ∙ sym (ap (λ (o : Option LinView). are_cancelled f p ls kept (factors_in o)) form-is)
 
 pub IfSome_each : {X : Type 0} (r : Option X) {P : X → Type 0} → ((x : X) → r ≡ Some x → P x) → IfSome r P
 IfSome_each None h = tt

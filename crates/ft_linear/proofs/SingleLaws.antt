@@ -1,5 +1,6 @@
 -- A literal's line with the bounds that cancel its other unknowns.
-use Rattle.std.proofs.Common.{◌≡◌, ◌≢◌, ◌∙◌, inl, inr, sym, ap, subst, refl, ℕ, zero, suc, ◌+◌, ◌<◌, ◌≤◌, ◌↔◌, ℤ, pos, negsuc, neg_ℤ, ◌+ℤ◌, ◌-ℤ◌, ◌*ℤ◌, Bool, true, false, ◌&&◌, cond, List, [], ◌∷◌, length, map, Option, Some, None, slice_get, arith}
+use Rattle.std.proofs.Common.{◌≡◌, ◌≢◌, ◌∙◌, inl, inr, sym, ap, subst, refl, ℕ, zero, suc, ◌+◌, ◌<◌, ◌≤◌, ◌↔◌, ℤ, pos, negsuc, neg_ℤ, ◌+ℤ◌}
+use Rattle.std.proofs.Common.{◌-ℤ◌, ◌*ℤ◌, Bool, true, false, ◌&&◌, cond, List, [], ◌∷◌, length, map, Option, Some, None, slice_get, arith}
 use Rattle.std.specs.Prelude.{filter, int_lt, is_some, nat_eq, nat_le}
 use Rattle.std.specs.List.{list_all}
 use Rattle.std.specs.Option.{option_map}
@@ -17,7 +18,8 @@ use Rattle.ft_linear.specs.meaning.Form.{AreRising, Factor, HasUnknowns, IsSmall
 use Rattle.ft_linear.specs.meaning.Formula.{FormulaView}
 use Rattle.ft_linear.specs.meaning.Halving.{cancelling, is_other, single_lines, single_span}
 use Rattle.ft_linear.specs.meaning.Part.{PartView}
-use Rattle.ft_linear.specs.meaning.Rules.{Tightens, are_lines, constant_in, factor_of, factors_in, is_line, is_multiplier, line_form, literal_form, lower_form, narrowed, times_of, total_constant, total_factor, upper_form}
+use Rattle.ft_linear.specs.meaning.Rules.{Tightens, are_lines, constant_in, factor_of, factors_in, is_line, is_multiplier, line_form}
+use Rattle.ft_linear.specs.meaning.Rules.{literal_form, lower_form, narrowed, times_of, total_constant, total_factor, upper_form}
 use Rattle.ft_linear.proofs.Basics.{not-under}
 use Rattle.ft_linear.proofs.RuleLemmas.{none-below}
 use Rattle.ft_linear.proofs.UnknownLemmas.{factor_of-negated, negated_factors, not-equal}
@@ -83,7 +85,8 @@ module _ (u : ℕ) where
         | inl same ↦
             let is = eqb-true f.0 u same in
             let none = none-below (f.0 + 1) u fs rising.3 (omega (arith, is)) in
-            let zero-end : low_end (factor_of u fs) (span_at spans u) ≡ pos 0 = ap (λ (z : ℤ). low_end z (span_at spans u)) none ∙ no-end (span_at spans u) in
+            let zero-end : low_end (factor_of u fs) (span_at spans u) ≡ pos 0 = ap (λ (z : ℤ). low_end z (span_at spans u)) none
+            ∙ no-end (span_at spans u) in
             let here : low_end f.1 (span_at spans f.0) ≡ low_end f.1 (span_at spans u) = ap (λ (w : ℕ). low_end f.1 (span_at spans w)) is in
             let whole : f.1 +ℤ factor_of u fs ≡ f.1 = omega (arith, ints, none) in
             let end = ap (λ (z : ℤ). low_end z (span_at spans u)) whole in
@@ -101,20 +104,24 @@ module _ (f : FormulaView) (p : PartView) where
   upper-form w t within = ap (option_map (upper_form w)) (slice_get-get_or p.spans w (pos 0, pos 0) within)
 
   bound-factor : (w : ℕ) (z : ℤ) (v : ℕ) → w < length p.spans → z ≢ pos 0
-      → pos (times_of (cancelling (w, z))) *ℤ factor_of v (factors_in (line_form f p (cancelling (w, z)))) ≡ neg_ℤ (cond (nat_eq w v) z (pos 0))
+      → pos (times_of (cancelling (w, z))) *ℤ factor_of v (factors_in (line_form f p (cancelling (w, z))))
+      ≡ neg_ℤ (cond (nat_eq w v) z (pos 0))
   bound-factor w (pos zero) v within some = absurd (some refl)
   bound-factor w (pos (suc n)) v within some =
-      subst (λ (l : Line). pos (times_of l) *ℤ factor_of v (factors_in (line_form f p l)) ≡ neg_ℤ (cond (nat_eq w v) (pos (suc n)) (pos 0))) (sym (lower-is w n))
+      subst (λ (l : Line). pos (times_of l) *ℤ factor_of v (factors_in (line_form f p l)) ≡ neg_ℤ (cond (nat_eq w v) (pos (suc n)) (pos 0)))
+      (sym (lower-is w n))
       (ap (λ (o : Option LinView). pos (suc n) *ℤ factor_of v (factors_in o)) (lower-form w (suc n) within) ∙ down n (nat_eq w v))
   bound-factor w (negsuc n) v within some =
-      subst (λ (l : Line). pos (times_of l) *ℤ factor_of v (factors_in (line_form f p l)) ≡ neg_ℤ (cond (nat_eq w v) (negsuc n) (pos 0))) (sym (upper-is w n))
+      subst (λ (l : Line). pos (times_of l) *ℤ factor_of v (factors_in (line_form f p l)) ≡ neg_ℤ (cond (nat_eq w v) (negsuc n) (pos 0)))
+      (sym (upper-is w n))
       (ap (λ (o : Option LinView). pos (suc n) *ℤ factor_of v (factors_in o)) (upper-form w (suc n) within) ∙ up n (nat_eq w v))
 
   bound-constant : (w : ℕ) (z : ℤ) → w < length p.spans → z ≢ pos 0
       → pos (times_of (cancelling (w, z))) *ℤ constant_in (line_form f p (cancelling (w, z))) ≡ low_end z (span_at p.spans w)
   bound-constant w (pos zero) within some = absurd (some refl)
   bound-constant w (pos (suc n)) within some =
-      subst (λ (l : Line). pos (times_of l) *ℤ constant_in (line_form f p l) ≡ low_end (pos (suc n)) (span_at p.spans w)) (sym (lower-is w n))
+      subst (λ (l : Line). pos (times_of l) *ℤ constant_in (line_form f p l) ≡ low_end (pos (suc n)) (span_at p.spans w))
+      (sym (lower-is w n))
       (ap (λ (o : Option LinView). pos (suc n) *ℤ constant_in o) (lower-form w (suc n) within)
       ∙ sym (ap (λ (b : Bool). pos (suc n) *ℤ cond b (span_at p.spans w).1 (span_at p.spans w).0) (not-under (suc n))))
   bound-constant w (negsuc n) within some =
@@ -129,9 +136,11 @@ module _ (f : FormulaView) (p : PartView) where
   bound-line : (w : ℕ) (z : ℤ) → w < length p.spans → z ≢ pos 0 → IsSmall z → is_line f p (cancelling (w, z)) ≡ true
   bound-line w (pos zero) within some small = absurd (some refl)
   bound-line w (pos (suc n)) within some small =
-      ap (is_line f p) (lower-is w n) ∙ and_from (is_multiplier (suc n)) (is_some (line_form f p (Lower w (suc n)))) (multiplier n small) (ap is_some (lower-form w (suc n) within))
+      ap (is_line f p) (lower-is w n) ∙ and_from (is_multiplier (suc n)) (is_some (line_form f p (Lower w (suc n)))) (multiplier n small)
+      (ap is_some (lower-form w (suc n) within))
   bound-line w (negsuc n) within some small =
-      ap (is_line f p) (upper-is w n) ∙ and_from (is_multiplier (suc n)) (is_some (line_form f p (Upper w (suc n)))) (multiplier n small) (ap is_some (upper-form w (suc n) within))
+      ap (is_line f p) (upper-is w n) ∙ and_from (is_multiplier (suc n)) (is_some (line_form f p (Upper w (suc n)))) (multiplier n small)
+      (ap is_some (upper-form w (suc n) within))
 
   -- factors that bounds can cancel
   abbrev Fit : List Factor → Type 0
@@ -158,7 +167,8 @@ module _ (f : FormulaView) (p : PartView) where
   bounds-lines : (gs : List Factor) → Fit gs → list_all (is_line f p) (map cancelling gs) ≡ true
   bounds-lines [] fit = refl
   bounds-lines (g ∷ gs) fit =
-      and_from (is_line f p (cancelling g)) (list_all (is_line f p) (map cancelling gs)) (bound-line g.0 g.1 fit.0 fit.1 fit.2) (bounds-lines gs fit.3)
+      and_from (is_line f p (cancelling g)) (list_all (is_line f p) (map cancelling gs)) (bound-line g.0 g.1 fit.0 fit.1 fit.2)
+      (bounds-lines gs fit.3)
 
   module _ (a : ℕ) (s : Bool) (u : ℕ) (m : LinView) (is : line_form f p (Atom a s 1) ≡ Some m) (rising : AreRising 0 m.factors)
       (within : HasUnknowns (length p.spans) m.factors) (few : length m.factors ≤ 3) (inside : u < length p.spans) where
@@ -196,7 +206,8 @@ module _ (f : FormulaView) (p : PartView) where
         let less = few-others u m.factors in
         and_from (nat_le 1 (length lines) && nat_le (length lines) 4300) (list_all (is_line f p) lines)
         (and_from (nat_le 1 (length lines)) (nat_le (length lines) 4300) (grind arith) (grind (arith, long, less, few)))
-        (and_from (is_line f p (Atom a s 1)) (list_all (is_line f p) (map cancelling (filter (is_other u) m.factors))) (ap is_some is) (bounds-lines (filter (is_other u) m.factors) fit))
+        (and_from (is_line f p (Atom a s 1)) (list_all (is_line f p) (map cancelling (filter (is_other u) m.factors))) (ap is_some is)
+        (bounds-lines (filter (is_other u) m.factors) fit))
 
     same-span : narrowed (total_factor f p u lines) (total_constant f p lines) (span_at p.spans u) ≡ single_span p.spans u m
     same-span = λ i. narrowed (own-factor i) (sum-constant i) (span_at p.spans u)
@@ -213,18 +224,21 @@ rising-negated from (f ∷ fs) h =
 within-negated : (n : ℕ) (fs : List Factor) → HasUnknowns n fs → HasUnknowns n (negated_factors fs)
 within-negated n [] h = All-nil (λ (g : Factor). g.0 < n)
 within-negated n (f ∷ fs) h =
-    All-cons (λ (g : Factor). g.0 < n) (f.0, neg_ℤ f.1) (negated_factors fs) (All-head (λ (g : Factor). g.0 < n) f fs h) (within-negated n fs (All-tail (λ (g : Factor). g.0 < n) f fs h))
+    All-cons (λ (g : Factor). g.0 < n) (f.0, neg_ℤ f.1) (negated_factors fs) (All-head (λ (g : Factor). g.0 < n) f fs h)
+    (within-negated n fs (All-tail (λ (g : Factor). g.0 < n) f fs h))
 
 pub singles-tighten : SinglesTighten
 singles-tighten f p a s u l span got proper within few is_forced inside =
-    by-sign s (ap (λ (b : Bool). cond b (option_map (literal_form s) (slice_get f.atoms a)) None) is_forced ∙ ap (option_map (literal_form s)) got)
+    by-sign s (ap (λ (b : Bool). cond b (option_map (literal_form s) (slice_get f.atoms a)) None) is_forced
+    ∙ ap (option_map (literal_form s)) got)
   where
     by-sign : (s : Bool) → line_form f p (Atom a s 1) ≡ Some (literal_form s l)
         → Tightens f p u (single_lines a s u l) span ↔ (single_span p.spans u (literal_form s l) ≡ Some span)
     by-sign true is = tightens f p a true u l is proper.rising within few inside span
     by-sign false is =
         let long = length-map {B = Factor} l.factors (λ (g : Factor). (g.0, neg_ℤ g.1)) in
-        tightens f p a false u (literal_form false l) is (rising-negated 0 l.factors proper.rising) (within-negated (length p.spans) l.factors within) (omega (arith, long, few)) inside span
+        tightens f p a false u (literal_form false l) is (rising-negated 0 l.factors proper.rising)
+        (within-negated (length p.spans) l.factors within) (omega (arith, long, few)) inside span
 
 -- the least value of minus a form
 pub least-negated : (spans : List (ℤ × ℤ)) (fs : List Factor) → least spans (negated_factors fs) ≡ neg_ℤ (most spans fs)

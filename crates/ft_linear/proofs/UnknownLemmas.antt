@@ -1,5 +1,6 @@
 -- Sums of factors, unknown by unknown.
-use Rattle.std.proofs.Common.{◌≡◌, ◌≢◌, ◌∙◌, inl, inr, sym, ap, refl, ℕ, zero, suc, ◌+◌, ◌<◌, ◌≤◌, ℤ, pos, ◌+ℤ◌, ◌*ℤ◌, neg_ℤ, Bool, true, false, cond, List, [], ◌∷◌, ◌++◌, map, arith}
+use Rattle.std.proofs.Common.{◌≡◌, ◌≢◌, ◌∙◌, inl, inr, sym, ap, refl, ℕ, zero, suc, ◌+◌, ◌<◌, ◌≤◌, ℤ, pos, ◌+ℤ◌, ◌*ℤ◌, neg_ℤ, Bool, true}
+use Rattle.std.proofs.Common.{false, cond, List, [], ◌∷◌, ◌++◌, map, arith}
 use Rattle.std.specs.Prelude.{nat_eq}
 use Rattle.std.proofs.lemmas.Bool.{cases_Bool, eqb-true}
 use Rattle.std.proofs.lemmas.Int.{ints}
@@ -22,7 +23,8 @@ total-add (suc n) g h = let r = total-add n g h in omega (arith, ints, r)
 total-zero : (n : ℕ) (g : ℕ → ℤ) → ((u : ℕ) → u < n → g u ≡ pos 0) → total n g ≡ pos 0
 unfolding total
 total-zero zero g h = refl
-total-zero (suc n) g h = let r = total-zero n g (λ u below. h u (omega (arith, below))) in let e = h n (omega arith) in omega (arith, ints, r, e)
+total-zero (suc n) g h = let r = total-zero n g (λ u below. h u (omega (arith, below))) in let e = h n (omega arith) in
+    omega (arith, ints, r, e)
 
 -- the function that is nothing but at one number
 abbrev at_one : (ℕ → ℤ) → ℕ → ℤ → ℕ → ℤ
@@ -95,8 +97,10 @@ pub alone : (x : ℕ → ℤ) (u : ℕ) (fs : List Factor) → ((v : ℕ) → v 
 alone x u fs h =
     let g : ℤ = factor_of u fs in
     let all : (v : ℕ) → factor_of v ((u, neg_ℤ g) ∷ fs) ≡ pos 0 = λ v. elim (cases_Bool (nat_eq u v)) [
-      | inl so ↦ ap (λ (b : Bool). cond b (neg_ℤ g) (pos 0) +ℤ factor_of v fs) so ∙ ap (λ (w : ℕ). neg_ℤ g +ℤ factor_of w fs) (sym (eqb-true u v so)) ∙ opposites g
-      | inr isnt ↦ ap (λ (b : Bool). cond b (neg_ℤ g) (pos 0) +ℤ factor_of v fs) isnt ∙ ap (λ (z : ℤ). pos 0 +ℤ z) (h v (λ same. cc (sym isnt ∙ ap (nat_eq u) same ∙ equal-to-itself u)))
+      | inl so ↦ ap (λ (b : Bool). cond b (neg_ℤ g) (pos 0) +ℤ factor_of v fs) so
+          ∙ ap (λ (w : ℕ). neg_ℤ g +ℤ factor_of w fs) (sym (eqb-true u v so)) ∙ opposites g
+      | inr isnt ↦ ap (λ (b : Bool). cond b (neg_ℤ g) (pos 0) +ℤ factor_of v fs) isnt
+          ∙ ap (λ (z : ℤ). pos 0 +ℤ z) (h v (λ same. cc (sym isnt ∙ ap (nat_eq u) same ∙ equal-to-itself u)))
     ] in
     let e = cancels x ((u, neg_ℤ g) ∷ fs) all in
     let n = neg-mul g (x u) in
@@ -108,14 +112,16 @@ sum-append x (f ∷ fs) gs = let r = sum-append x fs gs in omega (arith, ints, r
 
 pub mul-assoc : (t : ℕ) (f y : ℤ) → (pos t *ℤ f) *ℤ y ≡ pos t *ℤ (f *ℤ y)
 mul-assoc zero f y = ap (λ (z : ℤ). z *ℤ y) (zero-*ℤ f) ∙ zero-*ℤ y ∙ sym (zero-*ℤ (f *ℤ y))
-mul-assoc (suc t) f y = ap (λ (z : ℤ). z *ℤ y) (suc_ℤ-*ℤ (pos t) f) ∙ add-mul (pos t *ℤ f) f y ∙ ap (λ (z : ℤ). z +ℤ (f *ℤ y)) (mul-assoc t f y) ∙ sym (suc_ℤ-*ℤ (pos t) (f *ℤ y))
+mul-assoc (suc t) f y = ap (λ (z : ℤ). z *ℤ y) (suc_ℤ-*ℤ (pos t) f) ∙ add-mul (pos t *ℤ f) f y
+    ∙ ap (λ (z : ℤ). z +ℤ (f *ℤ y)) (mul-assoc t f y) ∙ sym (suc_ℤ-*ℤ (pos t) (f *ℤ y))
 
 pub times-none : (t : ℕ) → pos t *ℤ pos 0 ≡ pos 0
 times-none t = grind (arith, ints)
 
 pub sum-scaled : (x : ℕ → ℤ) (t : ℕ) (fs : List Factor) → sum_at x (scaled t fs) ≡ pos t *ℤ sum_at x fs
 sum-scaled x t [] = sym (times-none t)
-sum-scaled x t (f ∷ fs) = let a = mul-assoc t f.1 (x f.0) in let r = sum-scaled x t fs in let d = mul-add (pos t) (f.1 *ℤ x f.0) (sum_at x fs) in omega (arith, ints, a, r, d)
+sum-scaled x t (f ∷ fs) = let a = mul-assoc t f.1 (x f.0) in let r = sum-scaled x t fs in let d =
+    mul-add (pos t) (f.1 *ℤ x f.0) (sum_at x fs) in omega (arith, ints, a, r, d)
 
 pub factor_of-append : (u : ℕ) (fs gs : List Factor) → factor_of u (fs ++ gs) ≡ factor_of u fs +ℤ factor_of u gs
 factor_of-append u [] gs = omega (arith, ints)

@@ -1,5 +1,6 @@
 // One pass up a formula's tree for the values of its nodes, and one pass down for its forced literals.
-ghost use Rattle.std.specs.Prelude.{◌≡◌, ◌≤◌, ◌+◌, ℕ, Bool, true, length, drop, take, List, nat_eq, ◌&&◌, ◌++◌, map, count_by, slice_get, option_map, ◌||◌, not, cond, slice_set, ◌-◌, Some};
+ghost use Rattle.std.specs.Prelude.{◌≡◌, ◌≤◌, ◌+◌, ℕ, Bool, true, length, drop, take, List, nat_eq, ◌&&◌, ◌++◌, map, count_by, slice_get};
+ghost use Rattle.std.specs.Prelude.{option_map, ◌||◌, not, cond, slice_set, ◌-◌, Some};
 ghost use Rattle.std.specs.List.{flat_map, list_any};
 ghost use Rattle.ft_base.specs.Three.{is_no, is_yes, can_be, three_all, three_any};
 ghost use Rattle.ft_linear.specs.meaning.Forced.{forces, value_of, parts_force, same_bool, by_each, by_only, seen};
@@ -8,7 +9,8 @@ ghost use Rattle.ft_linear.specs.judging.Slots.{value_at, slots_of, only_of, IsW
 use crate::node::Node;
 use ft_base::Three;
 
-/// What the pass up leaves at a node: its value, whether exactly one part can still be as an open node needs, and the number of slots of its tree.
+/// What the pass up leaves at a node: its value, whether exactly one part can still be as an open node needs, and the number of slots of
+/// its tree.
 #[derive(Clone, Copy, Drop)]
 pub struct Slot {
     pub value: Three,
@@ -222,7 +224,8 @@ fn force_parts(
     signs: &mut [Signs],
 )
     requires { StartsWith slots.now (flat_map (slots_of (value_at values.now)) parts.now) }
-    ensures { Adds (λ a s. list_any (λ p. (each || can_be want p.0) && p.1 want a s) (map (seen (value_at values.now)) parts.now)) signs.old signs.new }
+    ensures { Adds (λ a s. list_any (λ p. (each || can_be want p.0) && p.1 want a s) (map (seen (value_at values.now)) parts.now)) signs.old
+        signs.new }
 {
     let mut rest = slots;
     for part in parts {

@@ -1,5 +1,6 @@
 ghost use Rattle.ft_linear.specs.laws.Forms.{FactorsAreSmall, LiteralsHold, DividedHolds, QuotientIsExact};
-ghost use Rattle.ft_linear.specs.laws.Parts.{AllWhereYes, DifferencesAreMet, ForcedHold, NoWhereBothWays, NoneWhereNo, SettledAtOnePoint, WithinSpans};
+ghost use Rattle.ft_linear.specs.laws.Parts.{AllWhereYes, DifferencesAreMet, ForcedHold, NoWhereBothWays, NoneWhereNo, SettledAtOnePoint};
+ghost use Rattle.ft_linear.specs.laws.Parts.{WithinSpans};
 ghost use Rattle.ft_linear.specs.laws.Sums.{AllWithinTightened, NoneWhereContradicted, SinglesTighten};
 
 /// The factors of a form are small. The form of a literal says what the literal does, and a form divided by a number, with

@@ -1,6 +1,7 @@
 // The lines of a sum: forced literals and bounds, each with its form and its multiplier.
 
-ghost use Rattle.std.specs.Prelude.{◌≡◌, ◌≤◌, ◌<◌, ◌+◌, ◌&&◌, ◌-ℤ◌, neg_ℤ, pos, true, [], ◌∷◌, length, slice_get, unsigned_abs, is_some, if◌then◌else◌};
+ghost use Rattle.std.specs.Prelude.{◌≡◌, ◌≤◌, ◌<◌, ◌+◌, ◌&&◌, ◌-ℤ◌, neg_ℤ, pos, true, [], ◌∷◌, length, slice_get, unsigned_abs, is_some};
+ghost use Rattle.std.specs.Prelude.{if◌then◌else◌};
 ghost use Rattle.ft_linear.specs.summing.Sizes.{line_most};
 ghost use Rattle.ft_linear.specs.meaning.Form.{AreRising, IsSmall, span_at};
 ghost use Rattle.ft_linear.specs.meaning.Part.{forced};

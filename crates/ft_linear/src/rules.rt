@@ -4,7 +4,8 @@
 // 2^62 that is below 1.85e34, and 4,300 lines add up to less than 7.94e37 either way, which an i128 holds
 // in any order of adding. So the number of lines and each multiplier are tested before the first product.
 
-ghost use Rattle.std.specs.Prelude.{◌≡◌, ◌≤◌, ◌<◌, ◌+◌, ◌*◌, ◌||◌, ◌↔◌, ◌+ℤ◌, ◌-ℤ◌, ◌*ℤ◌, ◌<ℤ◌, neg_ℤ, ℕ, ℤ, pos, Bool, true, false, length, unsigned_abs, IsTrue, IfSome, IfNone};
+ghost use Rattle.std.specs.Prelude.{◌≡◌, ◌≤◌, ◌<◌, ◌+◌, ◌*◌, ◌||◌, ◌↔◌, ◌+ℤ◌, ◌-ℤ◌, ◌*ℤ◌, ◌<ℤ◌, neg_ℤ, ℕ, ℤ, pos, Bool, true, false};
+ghost use Rattle.std.specs.Prelude.{length, unsigned_abs, IsTrue, IfSome, IfNone};
 ghost use Rattle.std.specs.List.{list_all};
 ghost use Rattle.ft_base.specs.Interval.{IsWithin};
 ghost use Rattle.ft_base.specs.Division.{floor_of};
@@ -12,7 +13,8 @@ ghost use Rattle.ft_linear.specs.meaning.Bounds.{times_most};
 ghost use Rattle.ft_linear.specs.summing.Sizes.{line_most, line_product_most, line_sum_most, product_most, sum_most};
 ghost use Rattle.ft_linear.specs.meaning.Form.{HasUnknowns, InArea, least, span_at};
 ghost use Rattle.ft_linear.specs.meaning.Marks.{AreFor, AreJudged};
-ghost use Rattle.ft_linear.specs.meaning.Rules.{Contradicts, HoldsForced, Tightens, are_lines, factors_in, is_line, line_form, literal_form, narrowed, down_to, up_to, total_constant, total_factor};
+ghost use Rattle.ft_linear.specs.meaning.Rules.{Contradicts, HoldsForced, Tightens, are_lines, factors_in, is_line, line_form};
+ghost use Rattle.ft_linear.specs.meaning.Rules.{literal_form, narrowed, down_to, up_to, total_constant, total_factor};
 ghost use Rattle.ft_linear.specs.meaning.Halving.{single_span};
 ghost use Rattle.ft_linear.specs.summing.Cancelling.{is_kept, is_cancelled, are_cancelled};
 
@@ -242,7 +244,8 @@ pub fn tighten(
     requires judged { AreJudged formula.now part.now marks.now }
     ensures some { IfSome result (λ span. Tightens formula.now part.now unknown lines.now span) }
     ensures only { (span : ℤ × ℤ) → Tightens formula.now part.now unknown lines.now span → result ≡ Some span }
-    ensures within { IfSome result (λ span. (x : ℕ → ℤ) → InArea part.now.spans x → HoldsForced formula.now part.now x → IsWithin span (x unknown)) }
+    ensures within { IfSome result (λ span. (x : ℕ → ℤ) → InArea part.now.spans x → HoldsForced formula.now part.now x
+        → IsWithin span (x unknown)) }
 {
     let spans = part.area().spans.as_slice();
     if unknown as usize >= spans.len()

@@ -1,5 +1,6 @@
 -- What reading a set's lexemes answers, in the grammar's words.
-use Rattle.std.proofs.Common.{◌≡◌, ◌∙◌, ◌⊎◌, inl, inr, ℕ, suc, Bool, true, false, List, [], ◌∷◌, ◌++◌, Option, Some, None, Ok, Err, refl, sym, ap, append_assoc, subst}
+use Rattle.std.proofs.Common.{◌≡◌, ◌∙◌, ◌⊎◌, inl, inr, ℕ, suc, Bool, true, false, List, [], ◌∷◌, ◌++◌, Option, Some, None, Ok, Err, refl}
+use Rattle.std.proofs.Common.{sym, ap, append_assoc, subst}
 use Rattle.std.proofs.lemmas.List.{append-nil, append_cancel_right}
 use Rattle.ft_read.specs.meaning.Lexeme.{Lexeme, lexemes_of}
 use Rattle.ft_parse.specs.meaning.Language.{PassNoLimit, Step, lexemes, step}
@@ -43,14 +44,35 @@ sorted (s ∷ more) = by-pass s more s.pass refl (sorted more) where
       → PassNoLimit (s ∷ more) ⊎ ((pass : Pass) × FirstPass (s ∷ more) pass)
   by-pass s more None e (inl no_limit) = inl (e, no_limit)
   by-pass s more None e (inr (pass, f)) =
-      inr (pass, record { front = s ∷ f.front; late = f.late; after = f.after; no_limit = (e, f.no_limit); is = ap (λ (us : List Step). s ∷ us) f.is })
+      inr (
+        pass,
+        record {
+          front = s ∷ f.front;
+          late = f.late;
+          after = f.after;
+          no_limit = (e, f.no_limit);
+          is =
+              ap (λ (us : List Step). s ∷ us) f.is;
+        },
+      )
   by-pass s more (Some pass) e h =
-      inr (pass, record { front = []; late = s.lexeme; after = more; no_limit = tt; is = ap (λ (o : Option Pass). step s.lexeme o ∷ more) e })
+      inr (
+        pass,
+        record {
+          front = [];
+          late = s.lexeme;
+          after = more;
+          no_limit = tt;
+          is =
+              ap (λ (o : Option Pass). step s.lexeme o ∷ more) e;
+        },
+      )
 
 -- where the first token that passes a limit stands
 pub first-expected : (at : ℕ) (front : List Step) (late : Lexeme) (pass : Pass) (after : List Step) (parts : Parts) (rest : List Lexeme)
     → PassNoLimit front
-    → (left : ℕ) × (expected at (front ++ step late (Some pass) ∷ after) parts rest ≡ (Err (Limit pass), state left (late ∷ (lexemes after ++ rest))))
+    → (left : ℕ) × (expected at (front ++ step late (Some pass) ∷ after) parts rest
+    ≡ (Err (Limit pass), state left (late ∷ (lexemes after ++ rest))))
 first-expected at [] late pass after parts rest no_limit = (at, refl)
 first-expected at (s ∷ front) late pass after parts rest (none, no_limit) =
     let (left, e) = first-expected (suc at) front late pass after parts rest no_limit in
@@ -77,7 +99,8 @@ not-inner [] inner c = c
 not-inner (s ∷ more) (e, inner) c = not-inner more inner (rw e at c)
 
 -- what stands before the last of a list's steps
-inner-front : (steps more front : List Step) (last : Step) → steps ++ more ≡ front ++ last ∷ [] → AllInner front → (more ≡ []) ⊎ AllInner steps
+inner-front : (steps more front : List Step) (last : Step) → steps ++ more ≡ front ++ last ∷ [] → AllInner front → (more ≡ [])
+    ⊎ AllInner steps
 inner-front [] more front last e inner = inr tt
 inner-front (s ∷ steps) more [] last e inner = inl (empty steps more (cc e)) where
   empty : (us vs : List Step) → us ++ vs ≡ [] → vs ≡ []
@@ -94,7 +117,8 @@ inner-front (s ∷ steps) more (f ∷ front) last e (g, inner) =
 -- what the answer says of closed lexemes
 abbrev pub Says : List Lexeme → Outcome Parts → Type 0
 Says ls (Ok parts, left) = (steps : List Step) × (lexemes steps ≡ ls) × PassNoLimit steps × set 0 steps parts
-Says ls (Err Syntax, left) = (bad : Lexeme) × (rest : List Lexeme) × (left.rest ≡ bad ∷ rest) × (front : List Lexeme) × (ls ≡ front ++ bad ∷ rest) × GoesOn front
+Says ls (Err Syntax, left) = (bad : Lexeme) × (rest : List Lexeme) × (left.rest ≡ bad ∷ rest) × (front : List Lexeme)
+    × (ls ≡ front ++ bad ∷ rest) × GoesOn front
     × ((steps : List Step) (others : List Lexeme) (parts : Parts) → lexemes steps ≡ front ++ bad ∷ others → set 0 steps parts → ⊥)
 Says ls (Err (Limit pass), left) =
     (late : Lexeme) × (rest : List Lexeme) × (front : List Step) × (ls ≡ lexemes front ++ late ∷ rest) × PassNoLimit front
@@ -132,7 +156,8 @@ all-taken ls closed left g none =
           (let same : g.steps ++ more ≡ g.steps = ap (λ (us : List Step). g.steps ++ us) empty ∙ append-nil g.steps in
           let (at, ok) = no_limit-expected 0 g.steps parts [] g.no_limit in
           let stopped : set_by (state 0 (lexemes g.steps ++ [])) ≡ (Err Syntax, state left.at []) = g.again [] (sym (ap head none)) in
-          apart-answers _ parts (state left.at []) (state at []) (ap (λ (us : List Lexeme). set_by (state 0 us)) (sym (append-nil (lexemes g.steps))) ∙ stopped) (reads g.steps parts (rw same at h) ∙ ok))
+          apart-answers _ parts (state left.at []) (state at []) (ap (λ (us : List Lexeme). set_by (state 0 us))
+          (sym (append-nil (lexemes g.steps))) ∙ stopped) (reads g.steps parts (rw same at h) ∙ ok))
       | inr all ↦ not-inner g.steps all (rw whole at closed)
     ]
 
@@ -143,7 +168,8 @@ module _ (steps : List Step) (parts : Parts) (h : set 0 steps parts) (ls : List 
 
   no-syntax : (left : ParserState) → set_by (state 0 ls) ≡ (Err Syntax, left) → ⊥
   no-syntax left e = elim (sorted steps) [
-    | inl no_limit ↦ (let (at, ok) = no_limit-expected 0 steps parts [] no_limit in apart-answers _ parts left (state at []) e (read-so ∙ ok))
+    | inl no_limit ↦ (let (at, ok) = no_limit-expected 0 steps parts [] no_limit in
+        apart-answers _ parts left (state at []) e (read-so ∙ ok))
     | inr f ↦ limited f.0 f.1
   ] where
     limited : (pass : Pass) → FirstPass steps pass → ⊥
@@ -158,7 +184,8 @@ module _ (steps : List Step) (parts : Parts) (h : set 0 steps parts) (ls : List 
       → set_by (state 0 ls) ≡ (Err (Limit pass), state at (late ∷ others))
       → (b a : List Step) × PassNoLimit b × (lexemes b ≡ front) × (steps ≡ b ++ step late (Some pass) ∷ a)
   one-limit front late others pass at is e = elim (sorted steps) [
-    | inl no_limit ↦ (let (left, ok) = no_limit-expected 0 steps parts [] no_limit in let answers = ap (λ (q : Outcome Parts). q.0) (sym e ∙ read-so ∙ ok) in absurd (cc answers))
+    | inl no_limit ↦ (let (left, ok) = no_limit-expected 0 steps parts [] no_limit in let answers =
+        ap (λ (q : Outcome Parts). q.0) (sym e ∙ read-so ∙ ok) in absurd (cc answers))
     | inr f ↦ limited f.0 f.1
   ] where
     limited : (other : Pass) → FirstPass steps other
@@ -173,8 +200,10 @@ module _ (steps : List Step) (parts : Parts) (h : set 0 steps parts) (ls : List 
         let same_late : f.late ≡ late = cc lefts in
         let same_rest : lexemes f.after ++ [] ≡ others = cc lefts in
         let whole : lexemes f.front ++ f.late ∷ (lexemes f.after ++ []) ≡ front ++ late ∷ others =
-        sym (two-parts f.front (step f.late (Some other) ∷ f.after) []) ∙ append-nil (lexemes (f.front ++ step f.late (Some other) ∷ f.after)) ∙ ap lexemes (sym f.is) ∙ same ∙ is in
-        let fronts : lexemes f.front ≡ front = append_cancel_right (lexemes f.front) front (late ∷ others) ((λ i. lexemes f.front ++ (sym same_late) i ∷ (sym same_rest) i) ∙ whole) in
+        sym (two-parts f.front (step f.late (Some other) ∷ f.after) [])
+        ∙ append-nil (lexemes (f.front ++ step f.late (Some other) ∷ f.after)) ∙ ap lexemes (sym f.is) ∙ same ∙ is in
+        let fronts : lexemes f.front ≡ front = append_cancel_right (lexemes f.front) front (late ∷ others)
+        ((λ i. lexemes f.front ++ (sym same_late) i ∷ (sym same_rest) i) ∙ whole) in
         (f.front, f.after, f.no_limit, fronts, f.is ∙ (λ i. f.front ++ step (same_late i) (Some (same_pass i)) ∷ f.after))
 
 answer-says : (ls : List Lexeme) → Closed ls → (o : Outcome Parts) → Faithful set set_by (state 0 ls) o → Says ls o
@@ -190,7 +219,8 @@ answer-says ls closed (Err Syntax, left) g = by-rest left.rest refl where
         lexemes g.steps,
         g.is ∙ ap (λ (us : List Lexeme). lexemes g.steps ++ us) e,
         (g.steps, more, parts, refl, g.no_limit, h),
-        λ steps others others_parts same k. no-syntax steps others_parts k (lexemes g.steps ++ bad ∷ others) same (state left.at (bad ∷ others)) (g.again (bad ∷ others) (sym (ap head e))),
+        λ steps others others_parts same k. no-syntax steps others_parts k (lexemes g.steps ++ bad ∷ others) same
+            (state left.at (bad ∷ others)) (g.again (bad ∷ others) (sym (ap head e))),
       )
 answer-says ls closed (Err (Limit pass), left) g =
     let (more, parts, h) = g.begins in (
@@ -200,7 +230,8 @@ answer-says ls closed (Err (Limit pass), left) g =
       g.is ∙ ap (λ (us : List Lexeme). lexemes g.steps ++ us) g.here,
       g.no_limit,
       (more, parts, subst (λ (us : List Step). set 0 us parts) (append_assoc g.steps (step g.late (Some pass) ∷ []) more) h),
-      λ steps others others_parts same k. one-limit steps others_parts k (lexemes g.steps ++ g.late ∷ others) same (lexemes g.steps) g.late others pass left.at refl (g.again others),
+      λ steps others others_parts same k. one-limit steps others_parts k (lexemes g.steps ++ g.late ∷ others) same (lexemes g.steps) g.late
+          others pass left.at refl (g.again others),
     )
 answer-says ls closed (Err NoMemory, left) g = g
 
@@ -221,7 +252,8 @@ closed-lexemes text tokens are = from 0 tokens are where
   from : (at : ℕ) (tokens : List Token) → AreTokensFrom text at tokens → Closed (lexemes_of text tokens)
   from at [] are = are
   from at (t ∷ more) (next, rest) = by-kind (is_last t.kind) rest (λ r. from t.end more r) where
-    by-kind : (b : Bool) → MatchBool b (more ≡ []) (AreTokensFrom text t.end more) → (AreTokensFrom text t.end more → Closed (lexemes_of text more))
+    by-kind : (b : Bool) → MatchBool b (more ≡ []) (AreTokensFrom text t.end more)
+        → (AreTokensFrom text t.end more → Closed (lexemes_of text more))
         → MatchBool b (lexemes_of text more ≡ []) (Closed (lexemes_of text more))
     by-kind true none later = ap (lexemes_of text) none
     by-kind false r later = later r

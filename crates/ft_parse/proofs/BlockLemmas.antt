@@ -30,7 +30,8 @@ use Rattle.ft_parse.specs.parsers.Steps.{one_more}
 use Rattle.ft_read.specs.declared.parts.SectionAt.{SectionAt}
 use Rattle.ft_read.specs.declared.stop.LimitWord.{LimitWord}
 use Rattle.ft_read.specs.declared.stop.LimitWord.TheVariants as limit
-use Rattle.ft_parse.proofs.Shorter.{Keeps, Shortens, alternative-keeps, alternative-shortens, repetition-end, gives, keeps, less, part-then, token, turn}
+use Rattle.ft_parse.proofs.Shorter.{Keeps, Shortens, alternative-keeps, alternative-shortens, repetition-end, gives, keeps, less, part-then}
+use Rattle.ft_parse.proofs.Shorter.{token, turn}
 use Rattle.ft_parse.proofs.PrecedenceLemmas.{expression-shortens}
 use Rattle.ft_parse.proofs.ListLemmas.{begin, entries-shortens, name-shortens, names-shortens, next, number-shortens, sign-shortens}
 use Rattle.ft_parse.proofs.ListLemmas.{word-shortens}
@@ -41,12 +42,14 @@ some-or : {A : Type 0} (a b : Option A) → is_some (or_else a b) ≡ (is_some a
 some-or (Some a) b = refl
 some-or None b = refl
 
-pub fact_starts : (rest : List Lexeme) → begins (can as_fact_word) rest ≡ (begins (can (as_word (codes "shows"))) rest || begins (can (as_word (codes "goal"))) rest)
+pub fact_starts : (rest : List Lexeme) → begins (can as_fact_word) rest
+    ≡ (begins (can (as_word (codes "shows"))) rest || begins (can (as_word (codes "goal"))) rest)
 fact_starts [] = refl
 fact_starts (l ∷ rest) = some-or (as_word (codes "shows") l) (as_word (codes "goal") l)
 
 pub item_starts : (rest : List Lexeme) → begins is_item_start rest
-    ≡ (begins (can (as_word (codes "const"))) rest || begins (can (as_word (codes "type"))) rest || begins (can as_var_word) rest || begins (can as_side) rest
+    ≡ (begins (can (as_word (codes "const"))) rest || begins (can (as_word (codes "type"))) rest || begins (can as_var_word) rest
+    || begins (can as_side) rest
     || begins (can as_map) rest || begins (can (as_word (codes "nat"))) rest || begins (can (as_word (codes "block"))) rest)
 item_starts [] = refl
 item_starts (l ∷ rest) = refl
@@ -63,7 +66,8 @@ plain-shortens = token as_plain lexical_passes
 
 minus-shortens : Shortens minus_bound_by
 unfolding minus_bound_by
-minus-shortens = begin (sign-shortens (codes "-")) (λ place. next plain-shortens (λ b. gives (record { minus = true; value = b.value; place = place })))
+minus-shortens = begin (sign-shortens (codes "-")) (λ place. next plain-shortens
+    (λ b. gives (record { minus = true; value = b.value; place = place })))
 
 bound-shortens : Shortens bound_by
 unfolding bound_by
@@ -84,7 +88,8 @@ range-after-shortens lo = begin upper-shortens (λ hi. gives (kind.Range lo hi))
 kind-of-name-keeps : (w : Word) → Keeps (kind_of_name_by w)
 unfolding kind_of_name_by
 kind-of-name-keeps w =
-    alternative-keeps _ _ _ (next upper-shortens (λ hi. gives (kind.Range (record { minus = false; value = plain.Name w.text; place = w.place }) hi))) (gives (kind.Named w))
+    alternative-keeps _ _ _ (next upper-shortens (λ hi. gives (kind.Range
+    (record { minus = false; value = plain.Name w.text; place = w.place }) hi))) (gives (kind.Named w))
 
 number-bound-shortens : Shortens number_bound_by
 unfolding number_bound_by
@@ -99,44 +104,55 @@ kind-shortens =
 
 header-shortens : (text : List ℕ) → Shortens (header_by text)
 unfolding header_by
-header-shortens text = begin (word-shortens text) (λ _. next entries-shortens (λ cells. next (sign-shortens (codes ";")) (λ _. gives cells)))
+header-shortens text = begin (word-shortens text) (λ _. next entries-shortens
+    (λ cells. next (sign-shortens (codes ";")) (λ _. gives cells)))
 
 grid-shortens : (before : List Item) (text : List ℕ) (make : Word → List Expr → List Row → Item) → Shortens (grid_by before text make)
 unfolding grid_by
 grid-shortens before text make =
-    begin (declared-shortens tables limit.Tables before) (λ target. next (sign-shortens (codes "{")) (λ _. next (header-shortens text) (λ cells.
-    next (several-shortens (can (as_word (codes "row"))) row_by row-shortens) (λ rows. next (sign-shortens (codes "}")) (λ _. gives (make target cells rows))))))
+    begin (declared-shortens tables limit.Tables before) (λ target. next (sign-shortens (codes "{"))
+    (λ _. next (header-shortens text) (λ cells.
+    next (several-shortens (can (as_word (codes "row"))) row_by row-shortens)
+    (λ rows. next (sign-shortens (codes "}")) (λ _. gives (make target cells rows))))))
 
 vector-grid-shortens : (s : SectionWord) → Shortens (vector_grid_by s)
 unfolding vector_grid_by
 vector-grid-shortens s =
     begin (sign-shortens (codes "{")) (λ _. next (header-shortens (codes "columns")) (λ cells.
-    next (several-shortens (can (as_word (codes "row"))) vrow_by vrow-shortens) (λ rows. next (sign-shortens (codes "}")) (λ _. gives (item.Vector s cells rows)))))
+    next (several-shortens (can (as_word (codes "row"))) vrow_by vrow-shortens)
+    (λ rows. next (sign-shortens (codes "}")) (λ _. gives (item.Vector s cells rows)))))
 
 table-shortens : (before : List Item) (s : SectionAt) → Shortens (table_by before s)
 unfolding table_by
 table-shortens before s =
-    alternative-shortens _ _ _ (begin (word-shortens (codes "normal")) (λ _. keeps _ (grid-shortens before (codes "columns") (item.Normal s.word))))
-    (alternative-shortens _ _ _ (begin (word-shortens (codes "inverted")) (λ _. keeps _ (grid-shortens before (codes "terms") (item.Inverted s.word))))
-    (begin (token (as_word (codes "vector")) (counted_at (is_full tables before) limit.Tables s.place)) (λ _. keeps _ (vector-grid-shortens s.word))))
+    alternative-shortens _ _ _ (begin (word-shortens (codes "normal"))
+    (λ _. keeps _ (grid-shortens before (codes "columns") (item.Normal s.word))))
+    (alternative-shortens _ _ _ (begin (word-shortens (codes "inverted"))
+    (λ _. keeps _ (grid-shortens before (codes "terms") (item.Inverted s.word))))
+    (begin (token (as_word (codes "vector")) (counted_at (is_full tables before) limit.Tables s.place))
+    (λ _. keeps _ (vector-grid-shortens s.word))))
 
 variable-shortens : (before : List Item) (words : VarWord) → Shortens (variable_by before words)
 unfolding variable_by
 variable-shortens before words =
     begin (declared-shortens variables limit.Variables before) (λ w. next (sign-shortens (codes ":")) (λ _. next kind-shortens (λ of.
-    next (word-shortens (codes "init")) (λ _. next value-shortens (λ init. next (sign-shortens (codes ";")) (λ _. gives (item.Variable words w of init)))))))
+    next (word-shortens (codes "init")) (λ _. next value-shortens (λ init. next (sign-shortens (codes ";"))
+    (λ _. gives (item.Variable words w of init)))))))
 
 held-shortens : (before : List Item) (side : SectionWord) → Shortens (held_by before side)
 unfolding held_by
 held-shortens before side =
-    begin (declared-shortens memories limit.Memories before) (λ w. next (sign-shortens (codes "(")) (λ _. next (expression-shortens false) (λ cond.
-    next (sign-shortens (codes ",")) (λ _. next plain-shortens (λ hold. next (word-shortens (codes "ms")) (λ _. next (sign-shortens (codes ")")) (λ _.
+    begin (declared-shortens memories limit.Memories before) (λ w. next (sign-shortens (codes "("))
+    (λ _. next (expression-shortens false) (λ cond.
+    next (sign-shortens (codes ",")) (λ _. next plain-shortens (λ hold. next (word-shortens (codes "ms"))
+    (λ _. next (sign-shortens (codes ")")) (λ _.
     next (sign-shortens (codes ";")) (λ _. gives (item.Held side w cond hold)))))))))
 
 hyst-shortens : (before : List Item) (side : SectionWord) → Shortens (hyst_by before side)
 unfolding hyst_by
 hyst-shortens before side =
-    begin (declared-shortens memories limit.Memories before) (λ w. next (sign-shortens (codes "(")) (λ _. next (expression-shortens false) (λ term.
+    begin (declared-shortens memories limit.Memories before) (λ w. next (sign-shortens (codes "("))
+    (λ _. next (expression-shortens false) (λ term.
     next (sign-shortens (codes ",")) (λ _. next bound-shortens (λ lo. next (sign-shortens (codes ",")) (λ _. next bound-shortens (λ hi.
     next (sign-shortens (codes ",")) (λ _. next (token as_start no_pass) (λ start. next (sign-shortens (codes ")")) (λ _.
     next (sign-shortens (codes ";")) (λ _. gives (item.Hyst side w term lo hi start))))))))))))
@@ -152,18 +168,21 @@ sided-shortens before s =
 signed-number-shortens : Shortens signed_number_by
 unfolding signed_number_by
 signed-number-shortens =
-    alternative-shortens _ _ _ (begin (sign-shortens (codes "-")) (λ _. next number-shortens (λ n. gives (true, n)))) (begin number-shortens (λ n. gives (false, n)))
+    alternative-shortens _ _ _ (begin (sign-shortens (codes "-")) (λ _. next number-shortens (λ n. gives (true, n))))
+    (begin number-shortens (λ n. gives (false, n)))
 
 constant-shortens : (before : List Item) → Shortens (constant_by before)
 unfolding constant_by
 constant-shortens before =
-    begin (word-shortens (codes "const")) (λ _. next (declared-shortens constants limit.Constants before) (λ w. next (sign-shortens (codes "=")) (λ _.
+    begin (word-shortens (codes "const")) (λ _. next (declared-shortens constants limit.Constants before)
+    (λ w. next (sign-shortens (codes "=")) (λ _.
     next signed-number-shortens (λ n. next (sign-shortens (codes ";")) (λ _. gives (item.Constant w n.0 n.1))))))
 
 members-shortens : (w : Word) → Shortens (members_by w)
 unfolding members_by
 members-shortens w =
-    begin (sign-shortens (codes "{")) (λ _. next (names-shortens 64 limit.Members) (λ ms. next (sign-shortens (codes "}")) (λ _. gives (item.EnumType w ms))))
+    begin (sign-shortens (codes "{")) (λ _. next (names-shortens 64 limit.Members)
+    (λ ms. next (sign-shortens (codes "}")) (λ _. gives (item.EnumType w ms))))
 
 range-type-shortens : (w : Word) → Shortens (range_type_by w)
 unfolding range_type_by
@@ -172,8 +191,10 @@ range-type-shortens w = begin bound-shortens (λ lo. next upper-shortens (λ hi.
 type-shortens : (before : List Item) → Shortens (type_item_by before)
 unfolding type_item_by
 type-shortens before =
-    begin (word-shortens (codes "type")) (λ _. next (declared-shortens types limit.Types before) (λ w. next (sign-shortens (codes "=")) (λ _.
-    next (alternative-shortens _ _ _ (members-shortens w) (range-type-shortens w)) (λ made. next (sign-shortens (codes ";")) (λ _. gives made)))))
+    begin (word-shortens (codes "type")) (λ _. next (declared-shortens types limit.Types before)
+    (λ w. next (sign-shortens (codes "=")) (λ _.
+    next (alternative-shortens _ _ _ (members-shortens w) (range-type-shortens w))
+    (λ made. next (sign-shortens (codes ";")) (λ _. gives made)))))
 
 clause-shortens : (before : List Item) → Shortens (clause_by before)
 unfolding clause_by
@@ -184,7 +205,8 @@ clause-shortens before =
 listed-keeps : (text : List ℕ) → Keeps (listed_by text)
 unfolding listed_by
 listed-keeps text =
-    alternative-keeps _ _ _ (next (word-shortens text) (λ _. next (names-shortens 300 limit.List) (λ ws. next (sign-shortens (codes ";")) (λ _. gives ws)))) (gives [])
+    alternative-keeps _ _ _ (next (word-shortens text) (λ _. next (names-shortens 300 limit.List)
+    (λ ws. next (sign-shortens (codes ";")) (λ _. gives ws)))) (gives [])
 
 fact-name-shortens : (before : List Item) (facts : ℕ) → Shortens (fact_name_by before facts)
 unfolding fact_name_by
@@ -193,14 +215,17 @@ fact-name-shortens before facts = token as_name (counted (no_more_facts before f
 fact-shortens : (before : List Item) (facts : ℕ) → Shortens (fact_part_by before facts)
 unfolding fact_part_by
 fact-shortens before facts =
-    alternative-shortens _ _ _ (begin (word-shortens (codes "shows")) (λ _. next (fact-name-shortens before facts) (λ w. next (sign-shortens (codes ":")) (λ _.
+    alternative-shortens _ _ _ (begin (word-shortens (codes "shows")) (λ _. next (fact-name-shortens before facts)
+    (λ w. next (sign-shortens (codes ":")) (λ _.
     next (expression-shortens false) (λ cond. next (sign-shortens (codes ";")) (λ _. gives (fact.Shows w cond)))))))
-    (begin (word-shortens (codes "goal")) (λ _. next (fact-name-shortens before facts) (λ w. next (sign-shortens (codes ";")) (λ _. gives (fact.Goal w)))))
+    (begin (word-shortens (codes "goal")) (λ _. next (fact-name-shortens before facts)
+    (λ w. next (sign-shortens (codes ";")) (λ _. gives (fact.Goal w)))))
 
 block-shortens : (before : List Item) → Shortens (block_by before)
 unfolding block_by
 block-shortens before =
-    begin (word-shortens (codes "block")) (λ _. next (declared-shortens blocks limit.Blocks before) (λ w. next (sign-shortens (codes "{")) (λ _.
+    begin (word-shortens (codes "block")) (λ _. next (declared-shortens blocks limit.Blocks before)
+    (λ w. next (sign-shortens (codes "{")) (λ _.
     part-then _ _ (listed-keeps (codes "takes")) (λ takes. part-then _ _ (listed-keeps (codes "uses")) (λ uses.
     next (several-shortens (can as_fact_word) (fact_part_by before) (fact-shortens before)) (λ facts. next (sign-shortens (codes "}")) (λ _.
     gives (item.Block w takes uses facts))))))))

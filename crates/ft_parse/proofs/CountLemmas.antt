@@ -1,5 +1,6 @@
 -- Counts that are kept beside the items that they count.
-use Rattle.std.proofs.Common.{◌≡◌, refl, sym, ap, ℕ, zero, suc, ◌+◌, ◌≤◌, min, arith, nat_le, Bool, true, false, List, [], ◌∷◌, ◌++◌, length}
+use Rattle.std.proofs.Common.{◌≡◌, refl, sym, ap, ℕ, zero, suc, ◌+◌, ◌≤◌, min, arith, nat_le, Bool, true, false, List, [], ◌∷◌, ◌++◌}
+use Rattle.std.proofs.Common.{length}
 use Rattle.ft_parse.specs.parsers.Counts.{up_to_most}
 
 pub full : (limit count n : ℕ) → limit ≤ 18446744073709551615 → count ≡ up_to_most n → nat_le limit count ≡ nat_le limit n

@@ -1,5 +1,6 @@
 -- The pieces of an expression are spelled as the same expression but for places.
-use Rattle.std.proofs.Common.{◌≡◌, ◌∙◌, inl, inr, ℕ, zero, suc, ◌+◌, ◌-◌, ◌≤◌, ◌<◌, ◌&&◌, max, Bool, true, false, List, [], ◌∷◌, ◌++◌, codes, decimal, length, map, nat_eq, nat_le, Option, Some, None, refl, sym, ap, subst}
+use Rattle.std.proofs.Common.{◌≡◌, ◌∙◌, inl, inr, ℕ, zero, suc, ◌+◌, ◌-◌, ◌≤◌, ◌<◌, ◌&&◌, max, Bool, true, false, List, [], ◌∷◌, ◌++◌}
+use Rattle.std.proofs.Common.{codes, decimal, length, map, nat_eq, nat_le, Option, Some, None, refl, sym, ap, subst}
 use Rattle.std.proofs.lemmas.List.{length-append, length-map, map-append}
 use Rattle.std.proofs.lemmas.Bool.{and_parts, cases_Bool, leb-true, lt-leb, ltb-false}
 use Rattle.std.proofs.lemmas.Bool.Decides.{nat_tests}
@@ -603,4 +604,12 @@ expr-written {at} e is_beyond room h =
           (arith, short, length-map (expr_pieces e) piece_shape) in
           let s = (whole-written
           (record { before = at; start = l.place; is_beyond = false }) refl e 64 64 at lawful deep deep fits).all (l ∷ ls) same in
-          record { steps = s.steps; value = s.value; same = s.same; no_limit = s.no_limit; means = begins-there 65 at s.steps l ls s.value s.same s.means; good = s.good }
+          record {
+            steps = s.steps;
+            value = s.value;
+            same = s.same;
+            no_limit = s.no_limit;
+            means =
+                begins-there 65 at s.steps l ls s.value s.same s.means;
+            good = s.good;
+          }

@@ -7,7 +7,8 @@ use native.Mathlib.Omega.{arith}
 use Rattle.ft_read.specs.meaning.Lexeme.{Lexeme}
 use Rattle.ft_parse.specs.meaning.Language.{Language, PassNoLimit, Step, alternative, lexemes, nothing, step, token, ◌▷◌}
 use Rattle.ft_read.specs.meaning.Limit.{Passes}
-use Rattle.ft_read.specs.parsers.Combinators.{Outcome, Parser, ParserState, begins, alternative_by, give, bind, read_token, state, token_as, token_of}
+use Rattle.ft_read.specs.parsers.Combinators.{Outcome, Parser, ParserState, begins, alternative_by, give, bind, read_token, state, token_as}
+use Rattle.ft_read.specs.parsers.Combinators.{token_of}
 use Rattle.ft_read.specs.parsers.Combinators.{◌▶◌}
 use Rattle.ft_read.specs.declared.stop.Pass.{Pass}
 use Rattle.ft_read.specs.declared.stop.Stop.TheVariants.{Syntax, Limit, NoMemory}
@@ -125,7 +126,8 @@ module _ {A B : Type 0} (L : Language A) (M : A → Language B) (p : Parser A) (
             a,
             g.steps,
             (h.steps ++ step h.late (Some pass) ∷ []) ++ more,
-            ap (λ (us : List Step). us ++ more) (append_assoc g.steps h.steps (step h.late (Some pass) ∷ [])) ∙ append_assoc g.steps (h.steps ++ step h.late (Some pass) ∷ []) more,
+            ap (λ (us : List Step). us ++ more) (append_assoc g.steps h.steps (step h.late (Some pass) ∷ []))
+                ∙ append_assoc g.steps (h.steps ++ step h.late (Some pass) ∷ []) more,
             g.means,
             rw (sym g.at) means,
           ),
@@ -230,7 +232,8 @@ module _ {A : Type 0} (read : Lexeme → Option A) (passes : Passes) (sample : (
   faithful-token s = by-rest s.at s.rest
 
 -- what is told of one part and one parser is told of others: the part is wider, and on tokens that start as these the parsers agree
-module _ {A : Type 0} (K L : Language A) (p q : Parser A) (into : (at : ℕ) (steps : List Step) (a : A) → K at steps a → L at steps a) (s : ParserState)
+module _ {A : Type 0} (K L : Language A) (p q : Parser A) (into : (at : ℕ) (steps : List Step) (a : A) → K at steps a → L at steps a)
+    (s : ParserState)
     (agree : (more : List Lexeme) → head more ≡ head s.rest → q (state s.at more) ≡ p (state s.at more)) where
   also : (us ls more : List Lexeme) (o : Outcome A) → s.rest ≡ us ++ ls → head more ≡ head ls → p (state s.at (us ++ more)) ≡ o
       → q (state s.at (us ++ more)) ≡ o
@@ -281,8 +284,10 @@ module _ {A : Type 0} (L M : Language A) (test : Lexeme → Bool) (p q : Parser 
     (one : (s : ParserState) → Faithful L p s (p s)) (other : (s : ParserState) → Faithful M q s (q s)) where
   by-test : (s : ParserState) (b : Bool) → begins test s.rest ≡ b
       → Faithful (alternative L M) (alternative_by test p q) s (if b then p s else q s)
-  by-test s true e = faithful-wider L (alternative L M) p (alternative_by test p q) (λ at steps a h. inl h) s (λ more f. rw (same-test test more s.rest f ∙ e) refl) (p s) (one s)
-  by-test s false e = faithful-wider M (alternative L M) q (alternative_by test p q) (λ at steps a h. inr h) s (λ more f. rw (same-test test more s.rest f ∙ e) refl) (q s) (other s)
+  by-test s true e = faithful-wider L (alternative L M) p (alternative_by test p q) (λ at steps a h. inl h) s
+      (λ more f. rw (same-test test more s.rest f ∙ e) refl) (p s) (one s)
+  by-test s false e = faithful-wider M (alternative L M) q (alternative_by test p q) (λ at steps a h. inr h) s
+      (λ more f. rw (same-test test more s.rest f ∙ e) refl) (q s) (other s)
 
   pub faithful-alternative : (s : ParserState) → Faithful (alternative L M) (alternative_by test p q) s (alternative_by test p q s)
   faithful-alternative s = by-test s (begins test s.rest) refl

@@ -163,8 +163,15 @@ one-fault law text NoMemory other of_one of_other f g = absurd of_one
 no-halt : OneTokens → (text : List ℕ) (tree : Tree) (front : List Lexeme) (bad : Lexeme) → Spells text tree → Halts text front bad → ⊥
 no-halt law text tree front bad s h =
     let begin : lexemes s.steps ≡ front ++ bad ∷ h.rest = same-lexemes law text (lexemes s.steps) (front ++ bad ∷ h.rest) s.are h.are in
-    not-within front bad (lexemes s.steps) h.rest h.stops
-    (s.steps, [], parts_of tree, refl, s.no_limit, subst (λ (steps : List Step). set 0 steps (parts_of tree)) (sym (append-nil s.steps)) s.grammar) begin
+    not-within front bad (lexemes s.steps) h.rest h.stops (
+      s.steps,
+      [],
+      parts_of tree,
+      refl,
+      s.no_limit,
+      subst (λ (steps : List Step). set 0 steps (parts_of tree)) (sym (append-nil s.steps))
+          s.grammar,
+    ) begin
 
 pub fault-or-tree : OneTokens → FaultOrTree
 fault-or-tree law text tree (Syntax place) s of_text f = no-halt law text tree f.front f.bad s (of-syntax text place f)

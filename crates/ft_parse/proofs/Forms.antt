@@ -1,5 +1,6 @@
 -- Which tokens a part begins with, and that they are told apart.
-use Rattle.std.proofs.Common.{◌≡◌, inl, inr, ℕ, Bool, true, false, not, ◌&&◌, ◌||◌, List, [], ◌∷◌, ◌++◌, Option, Some, None, refl, if◌then◌else◌}
+use Rattle.std.proofs.Common.{◌≡◌, inl, inr, ℕ, Bool, true, false, not, ◌&&◌, ◌||◌, List, [], ◌∷◌, ◌++◌, Option, Some, None, refl}
+use Rattle.std.proofs.Common.{if◌then◌else◌}
 use Rattle.std.proofs.lemmas.Bool.{and_parts, or_cases}
 use Rattle.std.proofs.Math.Bool.{or-true}
 use Rattle.std.proofs.lemmas.List.Folds.{list_any-append}
@@ -147,7 +148,8 @@ one-form k text some_end some_name d e = rw (of-end k e) refl
 one-form k text some_end some_number d e = rw (of-end k e) refl
 one-form k text some_end some_end d e = cc d
 
-one-list : (k : TokenKind) (text : List ℕ) (f : Form) (ys : List Form) → list_all (differ f) ys ≡ true → is_form k text f ≡ true → list_any (is_form k text) ys ≡ false
+one-list : (k : TokenKind) (text : List ℕ) (f : Form) (ys : List Form) → list_all (differ f) ys ≡ true → is_form k text f ≡ true
+    → list_any (is_form k text) ys ≡ false
 one-list k text f [] d e = refl
 one-list k text f (y ∷ ys) d e =
     let (first, rest) = and_parts (differ f y) (list_all (differ f) ys) d in
@@ -184,7 +186,8 @@ under-sign w l e = some-if (is_sign_kind l.kind && bytes_eq l.text w) l.place e
 
 pub under-name : Under (can as_name) (any (some_name ∷ []))
 under-name l e = by-kind l.kind e where
-  by-kind : (k : TokenKind) → is_some (as_name (record { kind = k; text = l.text; place = l.place })) ≡ true → (is_name_kind k || false) ≡ true
+  by-kind : (k : TokenKind) → is_some (as_name (record { kind = k; text = l.text; place = l.place })) ≡ true → (is_name_kind k || false)
+      ≡ true
   by-kind kind.Name e = refl
   by-kind kind.Number e = cc e
   by-kind kind.Word e = cc e
@@ -194,7 +197,8 @@ under-name l e = by-kind l.kind e where
 
 pub under-number : Under (can as_number) (any (some_number ∷ []))
 under-number l e = by-kind l.kind e where
-  by-kind : (k : TokenKind) → is_some (as_number (record { kind = k; text = l.text; place = l.place })) ≡ true → (is_number_kind k || false) ≡ true
+  by-kind : (k : TokenKind) → is_some (as_number (record { kind = k; text = l.text; place = l.place })) ≡ true → (is_number_kind k || false)
+      ≡ true
   by-kind kind.Name e = cc e
   by-kind kind.Number e = refl
   by-kind kind.Word e = cc e
@@ -204,7 +208,8 @@ under-number l e = by-kind l.kind e where
 
 pub under-end : Under (can as_end) (any (some_end ∷ []))
 under-end l e = by-kind l.kind e where
-  by-kind : (k : TokenKind) → is_some (as_end (record { kind = k; text = l.text; place = l.place })) ≡ true → (is_end_kind k || false) ≡ true
+  by-kind : (k : TokenKind) → is_some (as_end (record { kind = k; text = l.text; place = l.place })) ≡ true → (is_end_kind k || false)
+      ≡ true
   by-kind kind.Name e = cc e
   by-kind kind.Number e = cc e
   by-kind kind.Word e = cc e
@@ -213,14 +218,16 @@ under-end l e = by-kind l.kind e where
   by-kind kind.Bad e = cc e
 
 -- what is read by the one or else by the other
-pub under-or : {A : Type 0} (f g : Lexeme → Option A) (xs ys : List Form) → Under (can f) (any xs) → Under (can g) (any ys) → Under (can (λ l. or_else (f l) (g l))) (any (xs ++ ys))
+pub under-or : {A : Type 0} (f g : Lexeme → Option A) (xs ys : List Form) → Under (can f) (any xs) → Under (can g) (any ys)
+    → Under (can (λ l. or_else (f l) (g l))) (any (xs ++ ys))
 under-or f g xs ys one other l e = rw (list_any-append (is_form l.kind l.text) xs ys) (by-value (f l) refl e) where
   by-value : (o : Option _) → f l ≡ o → is_some (or_else o (g l)) ≡ true → (any xs l || any ys l) ≡ true
   by-value (Some a) p e = rw (one l (rw p refl)) refl
   by-value None p e = rw (other l e) (or-true (any xs l))
 
 -- what is read and changed
-pub under-map : {A B : Type 0} (f : Lexeme → Option A) (h : A → B) (xs : List Form) → Under (can f) (any xs) → Under (λ l. is_some (elim (f l) [ None ↦ None | Some a ↦ Some (h a) ])) (any xs)
+pub under-map : {A B : Type 0} (f : Lexeme → Option A) (h : A → B) (xs : List Form) → Under (can f) (any xs)
+    → Under (λ l. is_some (elim (f l) [ None ↦ None | Some a ↦ Some (h a) ])) (any xs)
 under-map f h xs one l e = by-value (f l) refl e where
   by-value : (o : Option _) → f l ≡ o → is_some (elim o [ None ↦ None | Some a ↦ Some (h a) ]) ≡ true → any xs l ≡ true
   by-value (Some a) p e = one l (rw p refl)
@@ -245,10 +252,12 @@ looks-number = record { under = under-number }
 pub looks-end : Looks as_end (some_end ∷ [])
 looks-end = record { under = under-end }
 
-pub looks-or : {A : Type 0} {f g : Lexeme → Option A} {xs ys : List Form} → Looks f xs → Looks g ys → Looks (λ l. or_else (f l) (g l)) (xs ++ ys)
+pub looks-or : {A : Type 0} {f g : Lexeme → Option A} {xs ys : List Form} → Looks f xs → Looks g ys
+    → Looks (λ l. or_else (f l) (g l)) (xs ++ ys)
 looks-or {A} {f} {g} {xs} {ys} one other = record { under = under-or f g xs ys one.under other.under }
 
-pub looks-map : {A B : Type 0} {f : Lexeme → Option A} {xs : List Form} (h : A → B) → Looks f xs → Looks (λ l. elim (f l) [ None ↦ None | Some a ↦ Some (h a) ]) xs
+pub looks-map : {A B : Type 0} {f : Lexeme → Option A} {xs : List Form} (h : A → B) → Looks f xs
+    → Looks (λ l. elim (f l) [ None ↦ None | Some a ↦ Some (h a) ]) xs
 looks-map {A} {B} {f} {xs} h one = record { under = under-map f h xs one.under }
 
 pub itself-bytes : (w : List ℕ) → bytes_eq w w ≡ true

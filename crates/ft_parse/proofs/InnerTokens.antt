@@ -54,13 +54,19 @@ abbrev are_inner : List Form → Bool
 are_inner [] = true
 are_inner (f ∷ fs) = is_inner f && are_inner fs
 
-inner-kind : (k : TokenKind) (text : List ℕ) (fs : List Form) → are_inner fs ≡ true → any fs (record { kind = k; text = text; place = record { line = 1; column = 1 } }) ≡ true → is_last k ≡ false
+inner-kind : (k : TokenKind) (text : List ℕ) (fs : List Form) → are_inner fs ≡ true
+    → any fs (record { kind = k; text = text; place = record { line = 1; column = 1 } }) ≡ true → is_last k ≡ false
 inner-kind token_kind.Name text fs d e = refl
 inner-kind token_kind.Number text fs d e = refl
 inner-kind token_kind.Word text fs d e = refl
 inner-kind token_kind.Sign text fs d e = refl
 inner-kind token_kind.End text fs d e = none fs d e where
-  none : (fs : List Form) → are_inner fs ≡ true → any fs (record { kind = token_kind.End; text = text; place = record { line = 1; column = 1 } }) ≡ true → true ≡ false
+  none : (fs : List Form) → are_inner fs ≡ true → any fs (record {
+    kind = token_kind.End;
+    text = text;
+    place =
+        record { line = 1; column = 1 };
+  }) ≡ true → true ≡ false
   none [] d e = sym e
   none (word w ∷ fs) d e = none fs d e
   none (sign w ∷ fs) d e = none fs d e
@@ -68,7 +74,12 @@ inner-kind token_kind.End text fs d e = none fs d e where
   none (some_number ∷ fs) d e = none fs d e
   none (some_end ∷ fs) d e = sym d
 inner-kind token_kind.Bad text fs d e = none fs d e where
-  none : (fs : List Form) → are_inner fs ≡ true → any fs (record { kind = token_kind.Bad; text = text; place = record { line = 1; column = 1 } }) ≡ true → true ≡ false
+  none : (fs : List Form) → are_inner fs ≡ true → any fs (record {
+    kind = token_kind.Bad;
+    text = text;
+    place =
+        record { line = 1; column = 1 };
+  }) ≡ true → true ≡ false
   none [] d e = sym e
   none (word w ∷ fs) d e = none fs d e
   none (sign w ∷ fs) d e = none fs d e
@@ -76,7 +87,8 @@ inner-kind token_kind.Bad text fs d e = none fs d e where
   none (some_number ∷ fs) d e = none fs d e
   none (some_end ∷ fs) d e = sym d
 
-pub a-token : {A : Type 0} {read : Lexeme → Option A} {passes : Passes} {fs : List Form} → Looks read fs → are_inner fs ≡ true → Inner (token read passes)
+pub a-token : {A : Type 0} {read : Lexeme → Option A} {passes : Passes} {fs : List Form} → Looks read fs → are_inner fs ≡ true
+    → Inner (token read passes)
 a-token {A} {read} {passes} {fs} looks d = record {
   all = λ at steps a h.
       let (l, is, e) = h in
@@ -138,7 +150,8 @@ module _ (site : Site) (inner : Nest → Language Expr) (room : ℕ) (within : (
   in-prefixed read fs nest make looks d = a-token looks d ◇ λ place. within nest ◇ λ e. a-nothing
 
   in-atom : Inner (atom site inner room)
-  in-atom = one-of (a-token looks-simple refl) (one-of (in-history (codes "prev") expr.Prev) (one-of (in-history (codes "age") expr.Age) in-group))
+  in-atom = one-of (a-token looks-simple refl) (one-of (in-history (codes "prev") expr.Prev)
+      (one-of (in-history (codes "age") expr.Age) in-group))
 
   in-unary : Inner (unary site inner room)
   in-unary = one-of (in-prefixed (as_sign (codes "-")) _ signed expr.Neg (looks-sign (codes "-")) refl) in-atom
@@ -167,7 +180,10 @@ in-nested : (n : ℕ) (site : Site) (room : ℕ) (nest : Nest) → Inner (nested
 unfolding nested
 in-nested zero site room nest = record { all = λ at steps e h. absurd h }
 in-nested (suc n) site room nest =
-    record { all = λ at steps e h. (in-layer site (nested n site (room - 1)) room (λ k. in-nested n site (room - 1) k) nest).all at steps e h }
+    record {
+      all = λ at steps e h. (in-layer site (nested n site (room - 1)) room (λ k. in-nested n site (room - 1) k) nest).all at steps e
+          h;
+    }
 
 in-expression : (is_beyond : Bool) → Inner (expression is_beyond)
 in-expression is_beyond = record { all = λ at steps e h. let (first, more, n, is, x) = h in (in-nested n _ 64 whole).all at steps e x }
@@ -191,7 +207,8 @@ in-upper : Inner Items.upper
 in-upper = a-sign (codes "..") ◇ λ _. in-bound
 
 in-kind : Inner Items.kind_part
-in-kind = one-of (a-word (codes "bool") ◇ λ _. a-nothing) (one-of (a-name ◇ λ w. one-of (in-upper ◇ λ hi. a-nothing) a-nothing) (one-of in-minus (in-number ◇ λ n. a-nothing) ◇ λ lo. in-upper ◇ λ hi. a-nothing))
+in-kind = one-of (a-word (codes "bool") ◇ λ _. a-nothing) (one-of (a-name ◇ λ w. one-of (in-upper ◇ λ hi. a-nothing) a-nothing)
+    (one-of in-minus (in-number ◇ λ n. a-nothing) ◇ λ lo. in-upper ◇ λ hi. a-nothing))
 
 in-entries : Inner Items.entries
 in-entries = in-expression _ ◇ λ e. again (e ∷ []) (λ es. a-sign (codes ",") ◇ λ _. in-expression _ ◇ λ f. a-nothing)
@@ -203,67 +220,82 @@ in-several : {A : Type 0} {part : ℕ → Language A} → ((n : ℕ) → Inner (
 in-several {A} {part} parts = parts 0 ◇ λ a. again (a ∷ []) (λ done. parts (length done) ◇ λ b. a-nothing)
 
 in-row : (n : ℕ) → Inner (Items.row n)
-in-row n = a-word (codes "row") ◇ λ place. in-expression _ ◇ λ head. a-sign (codes ":") ◇ λ _. in-entries ◇ λ cells. a-sign (codes ";") ◇ λ _. a-nothing
+in-row n = a-word (codes "row") ◇ λ place. in-expression _ ◇ λ head. a-sign (codes ":") ◇ λ _. in-entries ◇ λ cells. a-sign (codes ";") ◇ λ
+    _. a-nothing
 
 in-vrow : (n : ℕ) → Inner (Items.vrow n)
-in-vrow n = a-word (codes "row") ◇ λ place. a-name ◇ λ target. a-sign (codes ":") ◇ λ _. in-entries ◇ λ cells. a-sign (codes ";") ◇ λ _. a-nothing
+in-vrow n = a-word (codes "row") ◇ λ place. a-name ◇ λ target. a-sign (codes ":") ◇ λ _. in-entries ◇ λ cells. a-sign (codes ";") ◇ λ _.
+    a-nothing
 
 in-header : (w : List ℕ) → Inner (Items.header w)
 in-header w = a-word w ◇ λ _. in-entries ◇ λ cells. a-sign (codes ";") ◇ λ _. a-nothing
 
 in-grid : (items : List Item) (w : List ℕ) (make : Word → List Expr → List Row → Item) → Inner (Items.grid items w make)
-in-grid items w make = a-name ◇ λ target. a-sign (codes "{") ◇ λ _. in-header w ◇ λ cells. in-several in-row ◇ λ rows. a-sign (codes "}") ◇ λ _. a-nothing
+in-grid items w make = a-name ◇ λ target. a-sign (codes "{") ◇ λ _. in-header w ◇ λ cells. in-several in-row ◇ λ rows. a-sign (codes "}") ◇
+    λ _. a-nothing
 
 in-table : (items : List Item) (s : SectionAt) → Inner (Items.table items s)
 in-table items s =
-    one-of (a-word (codes "normal") ◇ λ _. in-grid items (codes "columns") (item.Normal s.word)) (one-of (a-word (codes "inverted") ◇ λ _. in-grid items (codes "terms") (item.Inverted s.word))
-    (a-word (codes "vector") ◇ λ _. a-sign (codes "{") ◇ λ _. in-header (codes "columns") ◇ λ cells. in-several in-vrow ◇ λ rows. a-sign (codes "}") ◇ λ _. a-nothing))
+    one-of (a-word (codes "normal") ◇ λ _. in-grid items (codes "columns") (item.Normal s.word))
+    (one-of (a-word (codes "inverted") ◇ λ _. in-grid items (codes "terms") (item.Inverted s.word))
+    (a-word (codes "vector") ◇ λ _. a-sign (codes "{") ◇ λ _. in-header (codes "columns") ◇ λ cells. in-several in-vrow ◇ λ rows. a-sign
+    (codes "}") ◇ λ _. a-nothing))
 
 in-variable : (items : List Item) (words : VarWord) → Inner (Items.variable items words)
-in-variable items words = a-name ◇ λ w. a-sign (codes ":") ◇ λ _. in-kind ◇ λ of. a-word (codes "init") ◇ λ _. in-value ◇ λ init. a-sign (codes ";") ◇ λ _. a-nothing
+in-variable items words = a-name ◇ λ w. a-sign (codes ":") ◇ λ _. in-kind ◇ λ of. a-word (codes "init") ◇ λ _. in-value ◇ λ init. a-sign
+    (codes ";") ◇ λ _. a-nothing
 
 in-held : (items : List Item) (side : SectionWord) → Inner (Items.held items side)
 in-held items side =
-    a-name ◇ λ w. a-sign (codes "(") ◇ λ _. in-expression _ ◇ λ cond. a-sign (codes ",") ◇ λ _. in-plain ◇ λ hold. a-word (codes "ms") ◇ λ _. a-sign (codes ")") ◇ λ _. a-sign (codes ";") ◇ λ _. a-nothing
+    a-name ◇ λ w. a-sign (codes "(") ◇ λ _. in-expression _ ◇ λ cond. a-sign (codes ",") ◇ λ _. in-plain ◇ λ hold. a-word (codes "ms") ◇ λ
+    _. a-sign (codes ")") ◇ λ _. a-sign (codes ";") ◇ λ _. a-nothing
 
 in-hyst : (items : List Item) (side : SectionWord) → Inner (Items.hyst items side)
 in-hyst items side =
-    a-name ◇ λ w. a-sign (codes "(") ◇ λ _. in-expression _ ◇ λ term. a-sign (codes ",") ◇ λ _. in-bound ◇ λ lo. a-sign (codes ",") ◇ λ _. in-bound ◇ λ hi. a-sign (codes ",") ◇ λ _.
+    a-name ◇ λ w. a-sign (codes "(") ◇ λ _. in-expression _ ◇ λ term. a-sign (codes ",") ◇ λ _. in-bound ◇ λ lo. a-sign (codes ",") ◇ λ _.
+    in-bound ◇ λ hi. a-sign (codes ",") ◇ λ _.
     a-token looks-start refl ◇ λ start. a-sign (codes ")") ◇ λ _. a-sign (codes ";") ◇ λ _. a-nothing
 
 in-sided : (items : List Item) (s : SectionAt) → Inner (Items.sided items s)
 in-sided items s =
-    one-of (a-word (codes "var") ◇ λ _. in-variable items (Items.inner_variable s.word)) (one-of (a-word (codes "held") ◇ λ _. in-held items s.word)
+    one-of (a-word (codes "var") ◇ λ _. in-variable items (Items.inner_variable s.word))
+    (one-of (a-word (codes "held") ◇ λ _. in-held items s.word)
     (one-of (a-word (codes "hyst") ◇ λ _. in-hyst items s.word) (in-table items s)))
 
 in-constant : (items : List Item) → Inner (Items.constant items)
 in-constant items =
-    a-word (codes "const") ◇ λ _. a-name ◇ λ w. a-sign (codes "=") ◇ λ _. one-of (a-sign (codes "-") ◇ λ _. in-number ◇ λ n. a-nothing) (in-number ◇ λ n. a-nothing) ◇ λ n. a-sign (codes ";") ◇ λ _. a-nothing
+    a-word (codes "const") ◇ λ _. a-name ◇ λ w. a-sign (codes "=") ◇ λ _. one-of (a-sign (codes "-") ◇ λ _. in-number ◇ λ n. a-nothing)
+    (in-number ◇ λ n. a-nothing) ◇ λ n. a-sign (codes ";") ◇ λ _. a-nothing
 
 in-type : (items : List Item) → Inner (Items.type_item items)
 in-type items =
     a-word (codes "type") ◇ λ _. a-name ◇ λ w. a-sign (codes "=") ◇ λ _.
-    one-of (a-sign (codes "{") ◇ λ _. in-names 64 _ ◇ λ ms. a-sign (codes "}") ◇ λ _. a-nothing) (in-bound ◇ λ lo. in-upper ◇ λ hi. a-nothing) ◇ λ made. a-sign (codes ";") ◇ λ _. a-nothing
+    one-of (a-sign (codes "{") ◇ λ _. in-names 64 _ ◇ λ ms. a-sign (codes "}") ◇ λ _. a-nothing)
+    (in-bound ◇ λ lo. in-upper ◇ λ hi. a-nothing) ◇ λ made. a-sign (codes ";") ◇ λ _. a-nothing
 
 in-clause : (items : List Item) → Inner (Items.clause items)
-in-clause items = a-word (codes "nat") ◇ λ _. a-token looks-moment refl ◇ λ moment. in-expression _ ◇ λ cond. a-sign (codes ";") ◇ λ _. a-nothing
+in-clause items = a-word (codes "nat") ◇ λ _. a-token looks-moment refl ◇ λ moment. in-expression _ ◇ λ cond. a-sign (codes ";") ◇ λ _.
+    a-nothing
 
 in-listed : (w : List ℕ) → Inner (Items.listed w)
 in-listed w = one-of (a-word w ◇ λ _. in-names 300 _ ◇ λ ws. a-sign (codes ";") ◇ λ _. a-nothing) a-nothing
 
 in-fact : (items : List Item) (n : ℕ) → Inner (Items.fact_part items n)
 in-fact items n =
-    one-of (a-word (codes "shows") ◇ λ _. a-name ◇ λ w. a-sign (codes ":") ◇ λ _. in-expression _ ◇ λ cond. a-sign (codes ";") ◇ λ _. a-nothing)
+    one-of (a-word (codes "shows") ◇ λ _. a-name ◇ λ w. a-sign (codes ":") ◇ λ _. in-expression _ ◇ λ cond. a-sign (codes ";") ◇ λ _.
+    a-nothing)
     (a-word (codes "goal") ◇ λ _. a-name ◇ λ w. a-sign (codes ";") ◇ λ _. a-nothing)
 
 in-block : (items : List Item) → Inner (Items.block items)
 in-block items =
-    a-word (codes "block") ◇ λ _. a-name ◇ λ w. a-sign (codes "{") ◇ λ _. in-listed (codes "takes") ◇ λ takes. in-listed (codes "uses") ◇ λ uses.
+    a-word (codes "block") ◇ λ _. a-name ◇ λ w. a-sign (codes "{") ◇ λ _. in-listed (codes "takes") ◇ λ takes. in-listed (codes "uses") ◇ λ
+    uses.
     in-several (in-fact items) ◇ λ facts. a-sign (codes "}") ◇ λ _. a-nothing
 
 in-item : (items : List Item) → Inner (Items.item_part items)
 in-item items =
-    one-of (in-constant items) (one-of (in-type items) (one-of (a-token looks-var-word refl ◇ in-variable items) (one-of (a-token looks-side refl ◇ in-sided items)
+    one-of (in-constant items) (one-of (in-type items) (one-of (a-token looks-var-word refl ◇ in-variable items)
+    (one-of (a-token looks-side refl ◇ in-sided items)
     (one-of (a-token looks-map-word refl ◇ in-table items) (one-of (in-clause items) (in-block items))))))
 
 in-setting : (w : List ℕ) → Inner (Items.setting w)
@@ -271,7 +303,8 @@ in-setting w = one-of (a-word w ◇ λ _. in-number ◇ λ n. a-sign (codes ";")
 
 -- inner tokens, and then the text's end
 pub record Ended {A : Type 0} (L : Language A) : Type 0 where
-  pub all : (at : ℕ) (steps : List Step) (a : A) → L at steps a → (front : List Step) × (last : Step) × (steps ≡ front ++ last ∷ []) × AllInner front × (is_last last.lexeme.kind ≡ true)
+  pub all : (at : ℕ) (steps : List Step) (a : A) → L at steps a → (front : List Step) × (last : Step) × (steps ≡ front ++ last ∷ [])
+      × AllInner front × (is_last last.lexeme.kind ≡ true)
 
 infixr 4 ◌◆◌
 ◌◆◌ : {A B : Type 0} {L : Language A} {M : A → Language B} → Inner L → ((a : A) → Ended (M a)) → Ended (L ▷ M)
@@ -279,11 +312,17 @@ unfolding ◌▷◌
 ◌◆◌ {A} {B} {L} {M} first second = record {
   all = λ at steps b h.
       let (a, us, vs, is, f, g) = h in
-      let (front, last, split, inner, e) = (second a).all (at + length us) vs b g in
-      (us ++ front, last, is ∙ ap (λ (ws : List Step). us ++ ws) split ∙ sym (append_assoc us front (last ∷ [])), inner-append us front (first.all at us a f) inner, e);
+      let (front, last, split, inner, e) = (second a).all (at + length us) vs b g in (
+        us ++ front,
+        last,
+        is ∙ ap (λ (ws : List Step). us ++ ws) split ∙ sym (append_assoc us front (last ∷ [])),
+        inner-append us front (first.all at us a f) inner,
+        e,
+      );
 }
 
-end-kind : (k : TokenKind) (text : List ℕ) (place a : Place) → as_end (record { kind = k; text = text; place = place }) ≡ Some a → is_last k ≡ true
+end-kind : (k : TokenKind) (text : List ℕ) (place a : Place) → as_end (record { kind = k; text = text; place = place }) ≡ Some a → is_last k
+    ≡ true
 end-kind token_kind.End text place a e = refl
 end-kind token_kind.Name text place a e = cc e
 end-kind token_kind.Number text place a e = cc e
@@ -297,13 +336,20 @@ the-end parts = record {
   all = λ at steps b h.
       let (a, us, vs, is, f, g) = h in
       let (l, one, e) = f in
-      let (none, same) = g in
-      ([], step l None, is ∙ ap (λ (ws : List Step). ws ++ vs) one ∙ ap (λ (ws : List Step). step l None ∷ ws) none, tt, end-kind l.kind l.text l.place a e);
+      let (none, same) = g in (
+        [],
+        step l None,
+        is ∙ ap (λ (ws : List Step). ws ++ vs) one ∙ ap (λ (ws : List Step). step l None ∷ ws) none,
+        tt,
+        end-kind l.kind l.text l.place a e,
+      );
 }
 
 -- a set's text ends with the text's end, and has it nowhere else
 pub set-ends : Ended Items.set
 set-ends =
-    a-word (codes "set") ◆ λ _. a-name ◆ λ w. a-sign (codes ";") ◆ λ _. a-word (codes "period") ◆ λ _. in-number ◆ λ period. a-word (codes "ms") ◆ λ _. a-sign (codes ";") ◆ λ _.
-    in-setting (codes "splits") ◆ λ splits. in-setting (codes "depth") ◆ λ depth. again [] (λ items. in-item items ◇ λ made. a-nothing) ◆ λ items.
+    a-word (codes "set") ◆ λ _. a-name ◆ λ w. a-sign (codes ";") ◆ λ _. a-word (codes "period") ◆ λ _. in-number ◆ λ period. a-word
+    (codes "ms") ◆ λ _. a-sign (codes ";") ◆ λ _.
+    in-setting (codes "splits") ◆ λ splits. in-setting (codes "depth") ◆ λ depth. again [] (λ items. in-item items ◇ λ made. a-nothing) ◆ λ
+    items.
     the-end (record { name = w.text; period = period; splits = splits; depth = depth; items = items })

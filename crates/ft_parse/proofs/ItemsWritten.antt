@@ -1,5 +1,6 @@
 -- The lines of an item are spelled as the same item but for places.
-use Rattle.std.proofs.Common.{◌≡◌, ◌∙◌, ℕ, suc, ◌+◌, ◌≤◌, ◌<◌, Bool, true, false, not, List, [], ◌∷◌, ◌++◌, codes, decimal, length, map, nat_le, refl, sym, ap, append_assoc}
+use Rattle.std.proofs.Common.{◌≡◌, ◌∙◌, ℕ, suc, ◌+◌, ◌≤◌, ◌<◌, Bool, true, false, not, List, [], ◌∷◌, ◌++◌, codes, decimal, length, map}
+use Rattle.std.proofs.Common.{nat_le, refl, sym, ap, append_assoc}
 use Rattle.std.specs.List.{flat_map, list_all, sum_by}
 use Rattle.std.proofs.lemmas.Bool.{and_from, and_parts, le-leb, lt-leb, not-true, true≢false}
 use Rattle.std.proofs.lemmas.List.{append-nil, map-append}

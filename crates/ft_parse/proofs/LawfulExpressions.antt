@@ -1,5 +1,6 @@
 -- An expression that is read within the limits is one of a tree: lawful, with at most 1,000 tokens and at most 64 open at once.
-use Rattle.std.proofs.Common.{◌≡◌, inl, inr, ℕ, zero, suc, ◌+◌, ◌-◌, ◌≤◌, ◌&&◌, nat_eq, nat_le, Bool, true, false, List, [], ◌∷◌, ◌++◌, codes, length}
+use Rattle.std.proofs.Common.{◌≡◌, inl, inr, ℕ, zero, suc, ◌+◌, ◌-◌, ◌≤◌, ◌&&◌, nat_eq, nat_le, Bool, true, false, List, [], ◌∷◌, ◌++◌}
+use Rattle.std.proofs.Common.{codes, length}
 use Rattle.std.proofs.Common.{Option, Some, None, refl, sym, ap, subst, length-append}
 use native.Mathlib.Omega.{arith}
 use Rattle.std.proofs.lemmas.Bool.Decides.{nat_tests}
@@ -23,7 +24,8 @@ use Rattle.ft_read.specs.declared.parts.Site.{Site}
 use Rattle.ft_read.specs.declared.parts.Operator.{Operator}
 use Rattle.ft_parse.proofs.Fits.{Fit, fit-age, fit-expr, fit-group, fit-looser, fit-more, fit-name, fit-neg, fit-not, fit-num, fit-prev}
 use Rattle.ft_parse.proofs.Fits.{fit-truth, fit-two}
-use Rattle.ft_parse.proofs.RealTokens.{AllGood, IncludesLexical, ReadsLawful, first-none, good-parts, reads-any, reads-map, reads-name, reads-number}
+use Rattle.ft_parse.proofs.RealTokens.{AllGood, IncludesLexical, ReadsLawful, first-none, good-parts, reads-any, reads-map, reads-name}
+use Rattle.ft_parse.proofs.RealTokens.{reads-number}
 use Rattle.ft_parse.proofs.RealTokens.{reads-or, so-none}
 
 -- within the first 1,000 tokens of the expression, and no entry too many

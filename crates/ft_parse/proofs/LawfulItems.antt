@@ -1,5 +1,6 @@
 -- The parts of a text that is read within the limits meet the invariant of a tree.
-use Rattle.std.proofs.Common.{◌≡◌, ◌∙◌, inl, inr, ℕ, zero, suc, ◌+◌, ◌≤◌, ◌&&◌, cond, nat_le, not, Bool, true, false, List, [], ◌∷◌, ◌++◌, codes}
+use Rattle.std.proofs.Common.{◌≡◌, ◌∙◌, inl, inr, ℕ, zero, suc, ◌+◌, ◌≤◌, ◌&&◌, cond, nat_le, not, Bool, true, false, List, [], ◌∷◌, ◌++◌}
+use Rattle.std.proofs.Common.{codes}
 use Rattle.std.proofs.Common.{length, Option, Some, refl, sym, ap, subst, length-append}
 use native.Mathlib.Omega.{arith}
 use Rattle.std.specs.List.{count_by, list_all, sum_by}
@@ -36,7 +37,8 @@ use Rattle.ft_read.specs.declared.parts.SectionAt.{SectionAt}
 use Rattle.ft_read.specs.declared.stop.LimitWord.{LimitWord}
 use Rattle.ft_read.specs.declared.stop.LimitWord.TheVariants as limit
 use Rattle.ft_parse.proofs.LawfulExpressions.{lawful-expression}
-use Rattle.ft_parse.proofs.RealTokens.{AllGood, IncludesLexical, ReadsLawful, first-none, good-parts, good-steps, reads-any, reads-map, reads-name}
+use Rattle.ft_parse.proofs.RealTokens.{AllGood, IncludesLexical, ReadsLawful, first-none, good-parts, good-steps, reads-any, reads-map}
+use Rattle.ft_parse.proofs.RealTokens.{reads-name}
 use Rattle.ft_parse.proofs.RealTokens.{reads-number, reads-or, so-none}
 use Rattle.ft_read.specs.meaning.Choices.{as_map, as_side, as_start, as_var_word, as_moment, as_plain, as_truth}
 

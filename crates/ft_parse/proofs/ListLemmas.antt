@@ -37,21 +37,25 @@ begin {A} {B} {p} {q} h k = first-then p q h k
 
 more-entries : (before : List Expr) → Shortens (more_entries_by before)
 unfolding more_entries_by
-more-entries before = begin (sign-shortens (codes ",")) (λ _. next (expression-shortens (nat_le 32 (length before))) (λ e. gives (before ++ e ∷ [])))
+more-entries before = begin (sign-shortens (codes ",")) (λ _. next (expression-shortens (nat_le 32 (length before)))
+    (λ e. gives (before ++ e ∷ [])))
 
 pub entries-shortens : Shortens entries_by
 unfolding entries_by
-entries-shortens = begin (expression-shortens false) (λ e. many-keeps (can (as_sign (codes ","))) more_entries_by (λ before. keeps _ (more-entries before)) (e ∷ []))
+entries-shortens = begin (expression-shortens false) (λ e. many-keeps (can (as_sign (codes ","))) more_entries_by
+    (λ before. keeps _ (more-entries before)) (e ∷ []))
 
 more-names : (most : ℕ) (which : LimitWord) (before : List Word) → Shortens (more_names_by most which before)
 unfolding more_names_by
 more-names most which before =
-    begin (sign-shortens (codes ",")) (λ _. next (token as_name (counted (nat_le most (length before)) which)) (λ w. gives (before ++ w ∷ [])))
+    begin (sign-shortens (codes ",")) (λ _. next (token as_name (counted (nat_le most (length before)) which))
+    (λ w. gives (before ++ w ∷ [])))
 
 pub names-shortens : (most : ℕ) (which : LimitWord) → Shortens (names_by most which)
 unfolding names_by
 names-shortens most which =
-    begin name-shortens (λ w. many-keeps (can (as_sign (codes ","))) (more_names_by most which) (λ before. keeps _ (more-names most which before)) (w ∷ []))
+    begin name-shortens (λ w. many-keeps (can (as_sign (codes ","))) (more_names_by most which)
+    (λ before. keeps _ (more-names most which before)) (w ∷ []))
 
 abbrev comma : Lexeme → Bool
 comma = can (as_sign (codes ","))
@@ -83,6 +87,7 @@ names_end most which before s e = repetition-end comma (more_names_by most which
 pub names_less : (most : ℕ) (which : LimitWord) (before next : List Word) (s after : ParserState)
     → begins (can (as_sign (codes ","))) s.rest ≡ true
     → more_names_by most which before s ≡ (Ok next, after) → length after.rest < length s.rest
-names_less most which before next s after e f = less comma (more_names_by most which before) (more-names most which before) s.at s.rest next after e f
+names_less most which before next s after e f = less comma (more_names_by most which before) (more-names most which before) s.at s.rest next
+    after e f
 
 pub ruleset names = (names_turn, names_end, names_less)

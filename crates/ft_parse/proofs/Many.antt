@@ -12,7 +12,8 @@ use Rattle.ft_parse.proofs.Faithful.{Begins, Takes, Faithful, at-first, same-tes
 
 -- each text of the part has a first token, which passes the test
 abbrev pub Heads : {A : Type 0} → Language A → (Lexeme → Bool) → Type 0
-Heads {A} L test = (at : ℕ) (steps : List Step) (a : A) → L at steps a → (s : Step) × (more : List Step) × (steps ≡ s ∷ more) × (test s.lexeme ≡ true)
+Heads {A} L test = (at : ℕ) (steps : List Step) (a : A) → L at steps a → (s : Step) × (more : List Step) × (steps ≡ s ∷ more)
+    × (test s.lexeme ≡ true)
 
 module _ {A : Type 0} (part : A → Language A) (test : Lexeme → Bool) (p : A → Parser A)
     (faithful : (a : A) (s : ParserState) → Faithful (part a) (p a) s (p a s)) (heads : (a : A) → Heads (part a) test) where
@@ -67,7 +68,8 @@ module _ {A : Type 0} (part : A → Language A) (test : Lexeme → Bool) (p : A 
       (faithful-wider (part a ▷ repeated part) (repeated part a) (p a ▶ many test p) (many test p a) (one-more a) (state at (l ∷ ls))
       (at-first (λ more. many test p a (state at more) ≡ bind (many test p) (p a (state at more))) l (λ more. many-step a at l more e))
       (bind (many test p) (p a (state at (l ∷ ls))))
-      (faithful-then (part a) (repeated part) (p a) (many test p) any-more (state at (l ∷ ls)) (p a (state at (l ∷ ls))) (faithful a (state at (l ∷ ls)))
+      (faithful-then (part a) (repeated part) (p a) (many test p) any-more (state at (l ∷ ls)) (p a (state at (l ∷ ls)))
+      (faithful a (state at (l ∷ ls)))
       (λ b left g. let fewer = shorter a b (state at (l ∷ ls)) left g in later b left (omega (arith, fewer, less)))))
 
   turns : (n : ℕ) (a : A) (at : ℕ) (rest : List Lexeme) → length rest ≤ n

@@ -25,7 +25,8 @@ together (Err stop, s) f k g e = refl
 
 module _ {A : Type 0} (before : List Item) (k : Word × Expr → Parser A) where
   pub condition-then : (s : ParserState)
-      → (declared_by memories limit.Memories before ▶ λ w. sign_by (codes "(") ▶ λ _. expression_by false ▶ λ e. sign_by (codes ",") ▶ λ _. k (w, e)) s
+      → (declared_by memories limit.Memories before ▶ λ w. sign_by (codes "(") ▶ λ _. expression_by false ▶ λ e. sign_by (codes ",") ▶ λ _.
+      k (w, e)) s
       ≡ bind k (condition_by before s)
   condition-then s =
       together (declared_by memories limit.Memories before s) _ k _ (λ w s. together (sign_by (codes "(") s) _ k _ (λ _ s.
@@ -36,7 +37,8 @@ pub close-then : {A : Type 0} (k : Unit {0} → Parser A) (s : ParserState)
 close-then k s = together (sign_by (codes ")") s) _ k _ (λ _ s. together (sign_by (codes ";") s) _ k _ (λ _ s. refl))
 
 pub limits-then : {A : Type 0} (k : Bound × Bound × Bool → Parser A) (s : ParserState)
-    → (bound_by ▶ λ lo. sign_by (codes ",") ▶ λ _. bound_by ▶ λ hi. sign_by (codes ",") ▶ λ _. read_token as_start no_pass ▶ λ start. k (lo, hi, start)) s
+    → (bound_by ▶ λ lo. sign_by (codes ",") ▶ λ _. bound_by ▶ λ hi. sign_by (codes ",") ▶ λ _. read_token as_start no_pass ▶ λ start. k
+    (lo, hi, start)) s
     ≡ bind k (limits_by s)
 limits-then k s =
     together (bound_by s) _ k _ (λ lo s. together (sign_by (codes ",") s) _ k _ (λ _ s. together (bound_by s) _ k _ (λ hi s.
@@ -50,15 +52,18 @@ pub held_is : (before : List Item) (side : SectionWord) (s : ParserState) → he
     ≡ (condition_by before ▶ λ c. plain_bound_by ▶ λ hold. word_by (codes "ms") ▶ λ _. close_by ▶ λ _. give (item.Held side c.0 c.1 hold)) s
 unfolding held_by
 held_is before side s =
-    condition-then before (λ c. plain_bound_by ▶ λ hold. word_by (codes "ms") ▶ λ _. sign_by (codes ")") ▶ λ _. sign_by (codes ";") ▶ λ _. give (item.Held side c.0 c.1 hold)) s
-    ∙ same-next (condition_by before s) _ _ (λ c s. same-next (plain_bound_by s) _ _ (λ hold s. same-next (word_by (codes "ms") s) _ _ (λ _ s.
+    condition-then before (λ c. plain_bound_by ▶ λ hold. word_by (codes "ms") ▶ λ _. sign_by (codes ")") ▶ λ _. sign_by (codes ";") ▶ λ _.
+    give (item.Held side c.0 c.1 hold)) s
+    ∙ same-next (condition_by before s) _ _ (λ c s. same-next (plain_bound_by s) _ _
+    (λ hold s. same-next (word_by (codes "ms") s) _ _ (λ _ s.
     close-then (λ _. give (item.Held side c.0 c.1 hold)) s)))
 
 pub hyst_is : (before : List Item) (side : SectionWord) (s : ParserState) → hyst_by before side s
     ≡ (condition_by before ▶ λ c. limits_by ▶ λ b. close_by ▶ λ _. give (item.Hyst side c.0 c.1 b.0 b.1 b.2)) s
 unfolding hyst_by
 hyst_is before side s =
-    condition-then before (λ c. bound_by ▶ λ lo. sign_by (codes ",") ▶ λ _. bound_by ▶ λ hi. sign_by (codes ",") ▶ λ _. read_token as_start no_pass ▶ λ start.
+    condition-then before (λ c. bound_by ▶ λ lo. sign_by (codes ",") ▶ λ _. bound_by ▶ λ hi. sign_by (codes ",") ▶ λ _. read_token as_start
+    no_pass ▶ λ start.
     sign_by (codes ")") ▶ λ _. sign_by (codes ";") ▶ λ _. give (item.Hyst side c.0 c.1 lo hi start)) s
     ∙ same-next (condition_by before s) _ _ (λ c s.
     limits-then (λ b. sign_by (codes ")") ▶ λ _. sign_by (codes ";") ▶ λ _. give (item.Hyst side c.0 c.1 b.0 b.1 b.2)) s

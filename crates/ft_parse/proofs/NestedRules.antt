@@ -1,5 +1,6 @@
 -- Expressions of any depth, up to the limit on nesting.
-use Rattle.std.proofs.Common.{◌≡◌, ◌∙◌, inl, inr, ℕ, zero, suc, ◌+◌, ◌-◌, Bool, true, List, [], ◌∷◌, ◌++◌, codes, length, Option, Some, None, Ok, Err, refl, sym, ap, subst}
+use Rattle.std.proofs.Common.{◌≡◌, ◌∙◌, inl, inr, ℕ, zero, suc, ◌+◌, ◌-◌, Bool, true, List, [], ◌∷◌, ◌++◌, codes, length, Option, Some}
+use Rattle.std.proofs.Common.{None, Ok, Err, refl, sym, ap, subst}
 use native.Mathlib.Omega.{arith}
 use Rattle.ft_base.specs.declared.place.Place.{Place}
 use Rattle.ft_tree.specs.declared.expr.Expr.{Expr}
@@ -45,7 +46,8 @@ module _ {A B : Type 0} (read : Lexeme → Option A) (passes : Passes) (M : A �
   not-read at steps b rest (c, us, vs, is, (x, one, e), k) =
       let (p, passed) = always at x in
       rw (is, one) (by-pass at x vs c b rest p e (passes at x) passed) where
-        by-pass : (at : ℕ) (x : Lexeme) (vs : List Step) (c : A) (b : B) (rest : List Lexeme) (p : Pass) → read x ≡ Some c → (o : Option Pass) → o ≡ Some p
+        by-pass : (at : ℕ) (x : Lexeme) (vs : List Step) (c : A) (b : B) (rest : List Lexeme) (p : Pass) → read x ≡ Some c
+            → (o : Option Pass) → o ≡ Some p
             → bind q (token_as (read x) o at x (lexemes vs ++ rest)) ≡ met at x (lexemes vs ++ rest) o (expected (suc at) vs b rest)
         by-pass at x vs c b rest p e o f = rw (e, f) refl
 
@@ -80,25 +82,30 @@ calms-close : (site : Site) (e : Expr) → Calms (token (as_sign (codes ")")) (w
 calms-close site e =
     calms-by-heads (token (as_sign (codes ")")) (within site) ▷ λ _. nothing e) (can (as_sign (codes ")"))) (any or_forms) never
     (heads-then (token (as_sign (codes ")")) (within site)) _ (can (as_sign (codes ")"))) (heads-token (as_sign (codes ")")) (within site)))
-    (apart-first (can (as_sign (codes ")"))) (any (sign (codes ")") ∷ [])) (any or_forms) (looks-sign (codes ")")).under (apart (sign (codes ")") ∷ []) or_forms refl))
+    (apart-first (can (as_sign (codes ")"))) (any (sign (codes ")") ∷ [])) (any or_forms) (looks-sign (codes ")")).under
+    (apart (sign (codes ")") ∷ []) or_forms refl))
 
 close : (site : Site) (e : Expr)
     → Rule (token (as_sign (codes ")")) (within site) ▷ λ _. nothing e) (read_token (as_sign (codes ")")) (within site) ▶ λ _. give e) never
 close site e = next (rule-token (as_sign (codes ")")) (within site) (some_sign (codes ")")) here refl) (λ _. rule-give e)
 
 -- a layer, where what stands within is read
-module _ (site : Site) (inner : Nest → Language Expr) (inner_by : Nest → Parser Expr) (rules : (nest : Nest) → Rule (inner nest) (inner_by nest) (goes nest)) where
-  minus : (room : ℕ) → Rule (prefixed site room (as_sign (codes "-")) (inner signed) expr.Neg) (prefixed_by site room (as_sign (codes "-")) (inner_by signed) expr.Neg) never
+module _ (site : Site) (inner : Nest → Language Expr) (inner_by : Nest → Parser Expr)
+    (rules : (nest : Nest) → Rule (inner nest) (inner_by nest) (goes nest)) where
+  minus : (room : ℕ) → Rule (prefixed site room (as_sign (codes "-")) (inner signed) expr.Neg)
+      (prefixed_by site room (as_sign (codes "-")) (inner_by signed) expr.Neg) never
   unfolding prefixed_by
   minus room = next (rule-token (as_sign (codes "-")) (opening site room) (some_sign (codes "-")) here refl)
       (λ place. rule-map (inner signed) (inner_by signed) (λ e. expr.Neg e place) never (rules signed))
 
-  nots : (room : ℕ) → Rule (prefixed site room (as_word (codes "not")) (inner negated) expr.Not) (prefixed_by site room (as_word (codes "not")) (inner_by negated) expr.Not) (any comparison_forms)
+  nots : (room : ℕ) → Rule (prefixed site room (as_word (codes "not")) (inner negated) expr.Not)
+      (prefixed_by site room (as_word (codes "not")) (inner_by negated) expr.Not) (any comparison_forms)
   unfolding prefixed_by
   nots room = next (rule-token (as_word (codes "not")) (opening site room) (some_word (codes "not")) here refl)
       (λ place. rule-map (inner negated) (inner_by negated) (λ e. expr.Not e place) (any comparison_forms) (rules negated))
 
-  rest-of-group : Rule (inner whole ▷ λ e. token (as_sign (codes ")")) (within site) ▷ λ _. nothing e) (inner_by whole ▶ λ e. read_token (as_sign (codes ")")) (within site) ▶ λ _. give e) never
+  rest-of-group : Rule (inner whole ▷ λ e. token (as_sign (codes ")")) (within site) ▷ λ _. nothing e)
+      (inner_by whole ▶ λ e. read_token (as_sign (codes ")")) (within site) ▶ λ _. give e) never
   rest-of-group = before (calms-close site) (rules whole) (close site)
 
   groups : (room : ℕ) → Rule (group site inner room) (group_by site inner_by room) never
@@ -112,7 +119,8 @@ module _ (site : Site) (inner : Nest → Language Expr) (inner_by : Nest → Par
 
 -- a layer where nothing more may open
 module _ (site : Site) (inner : Nest → Language Expr) (some : (nest : Nest) (at : ℕ) → Begins (inner nest) at []) where
-  stop : {A B : Type 0} (read : Lexeme → Option A) (M : A → Language B) (q : A → Parser B) (l : Lexeme) (a : A) → read l ≡ Some a → ((b : A) (at : ℕ) → Begins (M b) at [])
+  stop : {A B : Type 0} (read : Lexeme → Option A) (M : A → Language B) (q : A → Parser B) (l : Lexeme) (a : A) → read l ≡ Some a
+      → ((b : A) (at : ℕ) → Begins (M b) at [])
       → (after : Lexeme → Bool) → Rule (token read (opening site 0) ▷ M) (read_token read (opening site 0) ▶ q) after
   stop read M q l a reads ones after = rule-stopped read (opening site 0) M q (no-room site) l a reads ones after
 
@@ -129,18 +137,23 @@ module _ (site : Site) (inner : Nest → Language Expr) (some : (nest : Nest) (a
       let (vs, f, m) = (close site e).some (at + length us) in
       (us ++ vs, f, (e, us, vs, refl, k, m))
 
-  minus-last : Rule (prefixed site 0 (as_sign (codes "-")) (inner signed) expr.Neg) (prefixed_by site 0 (as_sign (codes "-")) (refuse signed) expr.Neg) never
+  minus-last : Rule (prefixed site 0 (as_sign (codes "-")) (inner signed) expr.Neg)
+      (prefixed_by site 0 (as_sign (codes "-")) (refuse signed) expr.Neg) never
   unfolding prefixed_by
-  minus-last = stop (as_sign (codes "-")) (λ place. inner signed ▷ λ e. nothing (expr.Neg e place)) _ (some_sign (codes "-")) here refl (λ place. some-map signed (λ e. expr.Neg e place)) never
+  minus-last = stop (as_sign (codes "-")) (λ place. inner signed ▷ λ e. nothing (expr.Neg e place)) _ (some_sign (codes "-")) here refl
+      (λ place. some-map signed (λ e. expr.Neg e place)) never
 
-  nots-last : Rule (prefixed site 0 (as_word (codes "not")) (inner negated) expr.Not) (prefixed_by site 0 (as_word (codes "not")) (refuse negated) expr.Not) (any comparison_forms)
+  nots-last : Rule (prefixed site 0 (as_word (codes "not")) (inner negated) expr.Not)
+      (prefixed_by site 0 (as_word (codes "not")) (refuse negated) expr.Not) (any comparison_forms)
   unfolding prefixed_by
-  nots-last = stop (as_word (codes "not")) (λ place. inner negated ▷ λ e. nothing (expr.Not e place)) _ (some_word (codes "not")) here refl (λ place. some-map negated (λ e. expr.Not e place))
+  nots-last = stop (as_word (codes "not")) (λ place. inner negated ▷ λ e. nothing (expr.Not e place)) _ (some_word (codes "not")) here refl
+      (λ place. some-map negated (λ e. expr.Not e place))
       (any comparison_forms)
 
   groups-last : Rule (group site inner 0) (group_by site refuse 0) never
   unfolding group_by
-  groups-last = stop (as_sign (codes "(")) (λ _. inner whole ▷ λ e. token (as_sign (codes ")")) (within site) ▷ λ _. nothing e) _ (some_sign (codes "(")) here refl (λ _. some-close) never
+  groups-last = stop (as_sign (codes "(")) (λ _. inner whole ▷ λ e. token (as_sign (codes ")")) (within site) ▷ λ _. nothing e) _
+      (some_sign (codes "(")) here refl (λ _. some-close) never
 
   pub rule-last : (nest : Nest) → Rule (layer site inner 0 nest) (layer_by site refuse 0 nest) (goes nest)
   rule-last whole = rule-disjunction site inner refuse 0 minus-last nots-last groups-last
@@ -148,24 +161,30 @@ module _ (site : Site) (inner : Nest → Language Expr) (some : (nest : Nest) (a
   rule-last signed = rule-unary site inner refuse 0 minus-last nots-last groups-last
 
 -- a layer over parts that grow grows
-module _ (site : Site) (F : Nest → ℕ → Language Expr) (L : Nest → Language Expr) (rises : (nest : Nest) → Rises (F nest) (L nest)) (room : ℕ) where
+module _ (site : Site) (F : Nest → ℕ → Language Expr) (L : Nest → Language Expr) (rises : (nest : Nest) → Rises (F nest) (L nest))
+    (room : ℕ) where
   rises-prefixed : (read : Lexeme → Option Place) (nest : Nest) (make : Expr → Place → Expr)
       → Rises (λ n. prefixed site room read (F nest n) make) (prefixed site room read (L nest) make)
   rises-prefixed read nest make =
-      rises-then (λ n. token read (opening site room)) (token read (opening site room)) (λ place n. F nest n ▷ λ e. nothing (make e place)) (λ place. L nest ▷ λ e. nothing (make e place))
+      rises-then (λ n. token read (opening site room)) (token read (opening site room)) (λ place n. F nest n ▷ λ e. nothing (make e place))
+      (λ place. L nest ▷ λ e. nothing (make e place))
       (rises-same (token read (opening site room)))
-      (λ place. rises-then (F nest) (L nest) (λ e n. nothing (make e place)) (λ e. nothing (make e place)) (rises nest) (λ e. rises-same (nothing (make e place))))
+      (λ place. rises-then (F nest) (L nest) (λ e n. nothing (make e place)) (λ e. nothing (make e place)) (rises nest)
+      (λ e. rises-same (nothing (make e place))))
 
   rises-group : Rises (λ n. group site (λ k. F k n) room) (group site L room)
   rises-group =
       rises-then (λ n. token (as_sign (codes "(")) (opening site room)) (token (as_sign (codes "(")) (opening site room))
-      (λ place n. F whole n ▷ λ e. token (as_sign (codes ")")) (within site) ▷ λ _. nothing e) (λ place. L whole ▷ λ e. token (as_sign (codes ")")) (within site) ▷ λ _. nothing e)
+      (λ place n. F whole n ▷ λ e. token (as_sign (codes ")")) (within site) ▷ λ _. nothing e)
+      (λ place. L whole ▷ λ e. token (as_sign (codes ")")) (within site) ▷ λ _. nothing e)
       (rises-same (token (as_sign (codes "(")) (opening site room)))
-      (λ place. rises-then (F whole) (L whole) (λ e n. token (as_sign (codes ")")) (within site) ▷ λ _. nothing e) (λ e. token (as_sign (codes ")")) (within site) ▷ λ _. nothing e)
+      (λ place. rises-then (F whole) (L whole) (λ e n. token (as_sign (codes ")")) (within site) ▷ λ _. nothing e)
+      (λ e. token (as_sign (codes ")")) (within site) ▷ λ _. nothing e)
       (rises whole) (λ e. rises-same (token (as_sign (codes ")")) (within site) ▷ λ _. nothing e)))
 
   rises-atom : Rises (λ n. atom site (λ k. F k n) room) (atom site L room)
-  rises-atom = rises-alternative _ _ _ _ (rises-same _) (rises-alternative _ _ _ _ (rises-same _) (rises-alternative _ _ _ _ (rises-same _) rises-group))
+  rises-atom = rises-alternative _ _ _ _ (rises-same _) (rises-alternative _ _ _ _ (rises-same _)
+      (rises-alternative _ _ _ _ (rises-same _) rises-group))
 
   rises-unary : Rises (λ n. unary site (λ k. F k n) room) (unary site L room)
   rises-unary = rises-alternative _ _ _ _ (rises-prefixed (as_sign (codes "-")) signed expr.Neg) rises-atom
@@ -173,9 +192,11 @@ module _ (site : Site) (F : Nest → ℕ → Language Expr) (L : Nest → Langua
   module _ (ops : Lexeme → Option Operator) (G : ℕ → Language Expr) (M : Language Expr) (r : Rises G M) where
     rises-right : (left : Expr) → Rises (λ n. right_of site ops (G n) left) (right_of site ops M left)
     rises-right left =
-        rises-then (λ n. token ops (within site)) (token ops (within site)) (λ o n. G n ▷ λ right. nothing (two o left right)) (λ o. M ▷ λ right. nothing (two o left right))
+        rises-then (λ n. token ops (within site)) (token ops (within site)) (λ o n. G n ▷ λ right. nothing (two o left right))
+        (λ o. M ▷ λ right. nothing (two o left right))
         (rises-same (token ops (within site)))
-        (λ o. rises-then G M (λ right n. nothing (two o left right)) (λ right. nothing (two o left right)) r (λ right. rises-same (nothing (two o left right))))
+        (λ o. rises-then G M (λ right n. nothing (two o left right)) (λ right. nothing (two o left right)) r
+        (λ right. rises-same (nothing (two o left right))))
 
     rises-chain : Rises (λ n. chain site ops (G n)) (chain site ops M)
     rises-chain =
@@ -190,9 +211,11 @@ module _ (site : Site) (F : Nest → ℕ → Language Expr) (L : Nest → Langua
 
   rises-comparison : Rises (λ n. comparison site (λ k. F k n) room) (comparison site L room)
   rises-comparison =
-      rises-then (λ n. sum site (λ k. F k n) room) (sum site L room) (λ left n. alternative (right_of site as_relation (sum site (λ k. F k n) room) left) (nothing left))
+      rises-then (λ n. sum site (λ k. F k n) room) (sum site L room) (λ left n. alternative
+      (right_of site as_relation (sum site (λ k. F k n) room) left) (nothing left))
       (λ left. alternative (right_of site as_relation (sum site L room) left) (nothing left)) rises-sum
-      (λ left. rises-alternative (λ n. right_of site as_relation (sum site (λ k. F k n) room) left) (λ n. nothing left) (right_of site as_relation (sum site L room) left) (nothing left)
+      (λ left. rises-alternative (λ n. right_of site as_relation (sum site (λ k. F k n) room) left) (λ n. nothing left)
+      (right_of site as_relation (sum site L room) left) (nothing left)
       (rises-right as_relation (λ n. sum site (λ k. F k n) room) (sum site L room) rises-sum left) (rises-same (nothing left)))
 
   rises-negation : Rises (λ n. negation site (λ k. F k n) room) (negation site L room)
@@ -210,7 +233,8 @@ module _ (site : Site) (F : Nest → ℕ → Language Expr) (L : Nest → Langua
   rises-layer signed = rises-unary
 
 -- one part within another
-module _ (site : Site) (K M : Nest → Language Expr) (into : (nest : Nest) (at : ℕ) (steps : List Step) (e : Expr) → K nest at steps e → M nest at steps e) where
+module _ (site : Site) (K M : Nest → Language Expr) (into : (nest : Nest) (at : ℕ) (steps : List Step) (e : Expr) → K nest at steps e
+    → M nest at steps e) where
   step-of : Nest → ℕ → Language Expr
   step-of nest zero = K nest
   step-of nest (suc n) = M nest
@@ -246,7 +270,8 @@ nested-up : (site : Site) (n room : ℕ) (nest : Nest) (at : ℕ) (steps : List 
 unfolding nested
 nested-up site zero room nest at steps e h = absurd h
 nested-up site (suc n) room nest at steps e h =
-    layer-within site (nested n site (room - 1)) (nested (suc n) site (room - 1)) (λ k at' steps' e' x. nested-up site n (room - 1) k at' steps' e' x) room nest at steps e h
+    layer-within site (nested n site (room - 1)) (nested (suc n) site (room - 1))
+    (λ k at' steps' e' x. nested-up site n (room - 1) k at' steps' e' x) room nest at steps e h
 
 nested-add : (site : Site) (n m room : ℕ) (nest : Nest) (at : ℕ) (steps : List Step) (e : Expr) → nested n site room nest at steps e
     → nested (n + m) site room nest at steps e
@@ -269,7 +294,8 @@ layer-deep : (site : Site) (room : ℕ) (nest : Nest) (at : ℕ) (steps : List S
     → layer site (deep site (room - 1)) room nest at steps e → deep site room nest at steps e
 unfolding nested
 layer-deep site room nest at steps e h =
-    let (n, x) = (rises-layer site (λ k n. nested n site (room - 1) k) (deep site (room - 1)) (rises-deep site (room - 1)) room nest).bound at steps e h in
+    let (n, x) = (rises-layer site (λ k n. nested n site (room - 1) k) (deep site (room - 1)) (rises-deep site (room - 1)) room nest).bound
+    at steps e h in
     (suc n, x)
 
 deep-layer : (site : Site) (room : ℕ) (nest : Nest) (at : ℕ) (steps : List Step) (e : Expr) → deep site room nest at steps e
@@ -280,7 +306,8 @@ deep-layer site room nest at steps e (suc n, h) =
     (rises-layer site (λ k n. nested n site (room - 1) k) (deep site (room - 1)) (rises-deep site (room - 1)) room nest).back n at steps e h
 
 -- the same texts, and parsers that agree
-pub rule-same : {A : Type 0} (K L : Language A) (p q : Parser A) (more : Lexeme → Bool) → ((at : ℕ) (steps : List Step) (a : A) → K at steps a → L at steps a)
+pub rule-same : {A : Type 0} (K L : Language A) (p q : Parser A) (more : Lexeme → Bool)
+    → ((at : ℕ) (steps : List Step) (a : A) → K at steps a → L at steps a)
     → ((at : ℕ) (steps : List Step) (a : A) → L at steps a → K at steps a) → ((s : ParserState) → q s ≡ p s) → Rule K p more
     → Rule L q more
 rule-same K L p q more to back same r = record {
@@ -322,8 +349,10 @@ rule-deep zero site nest =
 rule-deep (suc room) site nest =
     let less : suc room - 1 ≡ room = omega arith in
     let rules : (k : Nest) → Rule (deep site (suc room - 1) k) (nested_by room site k) (goes k) = rw less (λ k. rule-deep room site k) in
-    rule-same (layer site (deep site (suc room - 1)) (suc room) nest) (deep site (suc room) nest) (layer_by site (nested_by room site) (suc room) nest) (nested_by (suc room) site nest) (goes nest)
-    (layer-deep site (suc room) nest) (deep-layer site (suc room) nest) (λ s. refl) (rule-layer site (deep site (suc room - 1)) (nested_by room site) rules (suc room) nest)
+    rule-same (layer site (deep site (suc room - 1)) (suc room) nest) (deep site (suc room) nest)
+    (layer_by site (nested_by room site) (suc room) nest) (nested_by (suc room) site nest) (goes nest)
+    (layer-deep site (suc room) nest) (deep-layer site (suc room) nest) (λ s. refl)
+    (rule-layer site (deep site (suc room - 1)) (nested_by room site) rules (suc room) nest)
 
 -- an expression where it stands
 abbrev site_here : Bool → ℕ → Lexeme → Site
@@ -333,14 +362,21 @@ module _ (is_beyond : Bool) (at : ℕ) (l : Lexeme) where
   into : (x : Step) (more : List Step) (e : Expr) → x.lexeme ≡ l → deep (site_here is_beyond at l) 64 whole at (x ∷ more) e
       → expression is_beyond at (x ∷ more) e
   into x more e same (n, h) =
-      let place : x.lexeme.place ≡ l.place = ap (λ (k : Lexeme). k.place) same in
-      (x, more, n, refl, subst (λ (p : Place). nested n (record { before = at; start = p; is_beyond = is_beyond }) 64 whole at (x ∷ more) e) (sym place) h)
+      let place : x.lexeme.place ≡ l.place = ap (λ (k : Lexeme). k.place) same in (
+        x,
+        more,
+        n,
+        refl,
+        subst (λ (p : Place). nested n (record { before = at; start = p; is_beyond = is_beyond }) 64 whole at (x ∷ more) e)
+            (sym place) h,
+      )
 
   head-of : (steps : List Step) (e : Expr) → deep (site_here is_beyond at l) 64 whole at steps e
       → (x : Step) × (more : List Step) × (steps ≡ x ∷ more)
   head-of steps e h =
       let (x, more, is, t) =
-      heads-disjunction (site_here is_beyond at l) (deep (site_here is_beyond at l) (64 - 1)) 64 at steps e (deep-layer (site_here is_beyond at l) 64 whole at steps e h) in
+      heads-disjunction (site_here is_beyond at l) (deep (site_here is_beyond at l) (64 - 1)) 64 at steps e
+      (deep-layer (site_here is_beyond at l) 64 whole at steps e h) in
       (x, more, is)
 
   -- what is read where it stands is an expression
@@ -362,7 +398,8 @@ module _ (is_beyond : Bool) (at : ℕ) (l : Lexeme) (ls : List Lexeme) where
       → nested_by 64 (site_here is_beyond at l) whole (state at all) ≡ o → expression_by is_beyond (state at all) ≡ o
   unfolding expression_by
   same-reading o all f e =
-      at-first (λ us. nested_by 64 (site_here is_beyond at l) whole (state at us) ≡ o → expression_by is_beyond (state at us) ≡ o) l (λ us g. g) all f e
+      at-first (λ us. nested_by 64 (site_here is_beyond at l) whole (state at us) ≡ o → expression_by is_beyond (state at us) ≡ o) l
+      (λ us g. g) all f e
 
   agree : (us left more : List Lexeme) (o : Outcome Expr) → l ∷ ls ≡ us ++ left → head more ≡ head left
       → nested_by 64 (site_here is_beyond at l) whole (state at (us ++ more)) ≡ o → expression_by is_beyond (state at (us ++ more)) ≡ o
@@ -424,7 +461,8 @@ rule-expression is_beyond =
         again = at-end (λ us. expression_by is_beyond (state at us) ≡ (Err Syntax, state at us)) refl;
       }
       faithful at (l ∷ ls) =
-          expression-faithful is_beyond at l ls (nested_by 64 (site_here is_beyond at l) whole (state at (l ∷ ls))) ((rule-deep 64 (site_here is_beyond at l) whole).faithful (state at (l ∷ ls)))
+          expression-faithful is_beyond at l ls (nested_by 64 (site_here is_beyond at l) whole (state at (l ∷ ls)))
+          ((rule-deep 64 (site_here is_beyond at l) whole).faithful (state at (l ∷ ls)))
 
       whole-expression : Whole (expression is_beyond) (expression_by is_beyond) (any or_forms)
       whole-expression at steps e rest (x, more, n, is, h) f =
@@ -435,4 +473,5 @@ rule-expression is_beyond =
 
 pub heads-expression : (is_beyond : Bool) → Heads (expression is_beyond) (any negation_forms)
 heads-expression is_beyond at steps e (x, more, n, is, h) =
-    heads-disjunction (site_here is_beyond at x.lexeme) (deep (site_here is_beyond at x.lexeme) (64 - 1)) 64 at steps e (deep-layer (site_here is_beyond at x.lexeme) 64 whole at steps e (n, h))
+    heads-disjunction (site_here is_beyond at x.lexeme) (deep (site_here is_beyond at x.lexeme) (64 - 1)) 64 at steps e
+    (deep-layer (site_here is_beyond at x.lexeme) 64 whole at steps e (n, h))

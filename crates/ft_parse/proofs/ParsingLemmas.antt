@@ -27,7 +27,8 @@ use Rattle.ft_read.specs.declared.stop.Stop.TheVariants.{Syntax, Limit, NoMemory
 use Rattle.ft_parse.proofs.Answers.{Says, closed-lexemes, only, says}
 use Rattle.ft_parse.proofs.LawfulItems.{lawful-parts}
 
-set-prop : (name : List ℕ) (period : Number) (splits depth : Option Number) (items : List Item) → (x y : IsSet name period splits depth items) → x ≡ y
+set-prop : (name : List ℕ) (period : Number) (splits depth : Option Number) (items : List Item)
+    → (x y : IsSet name period splits depth items) → x ≡ y
 set-prop name period splits depth items = hlevel props
 
 -- trees with the same parts are the same
@@ -44,7 +45,8 @@ same-tree t u e =
       splits = splits i;
       depth = depth i;
       items = items i;
-      lawful = is_prop→PathP (λ j. IsSet (name j) (period j) (splits j) (depth j) (items j)) (λ j. set-prop (name j) (period j) (splits j) (depth j) (items j)) t.lawful u.lawful i;
+      lawful = is_prop→PathP (λ j. IsSet (name j) (period j) (splits j) (depth j) (items j))
+          (λ j. set-prop (name j) (period j) (splits j) (depth j) (items j)) t.lawful u.lawful i;
     }
 
 module _ (text : List ℕ) (tokens : List Token) (are : IsTokens text tokens) where
@@ -79,11 +81,31 @@ module _ (text : List ℕ) (tokens : List Token) (are : IsTokens text tokens) wh
   read-fault Syntax left f e is =
       let (bad, rest, there, front, whole, begins, ends) = said (Err Syntax, left) e in
       let place : f ≡ fault.Syntax bad.place = subst (λ (us : List Lexeme). IsFaultOf Syntax us f) there is in
-      subst (IsFault text) (sym place) (record { front = front; bad = bad; rest = rest; are = subst (AreLexemes text) whole here; at = refl; begins = begins; ends = ends })
+      subst (IsFault text) (sym place) (record {
+        front = front;
+        bad = bad;
+        rest = rest;
+        are = subst (AreLexemes text) whole here;
+        at =
+            refl;
+        begins = begins;
+        ends = ends;
+      })
   read-fault (Limit pass) left f e is =
       let (late, rest, front, whole, no_limit, begins, always) = said (Err (Limit pass), left) e in
       subst (IsFault text) (sym is)
-      (record { front = lexemes front; late = late; rest = rest; are = subst (AreLexemes text) whole here; before = front; no_limit = no_limit; same = refl; begins = begins; always = always })
+      (record {
+        front = lexemes front;
+        late = late;
+        rest = rest;
+        are = subst (AreLexemes text) whole here;
+        before = front;
+        no_limit =
+            no_limit;
+        same = refl;
+        begins = begins;
+        always = always;
+      })
   read-fault NoMemory left f e is = subst (IsFault text) (sym is) tt
 
   module _ (sole : (others : List Token) → IsTokens text others → others ≡ tokens) where
@@ -132,7 +154,8 @@ module _ (text : List ℕ) (tokens : List Token) (are : IsTokens text tokens) wh
         → IsSameTree read tree
     read-same law parts left read tree e is canonical_is =
         let (steps, written, are_lexemes, grammar, no_limit, same) = round-trip law tree in
-        let (at, whole) = parts-whole steps written (subst (λ (t : List ℕ). AreLexemes t (lexemes steps)) (sym canonical_is) are_lexemes) grammar no_limit in
+        let (at, whole) = parts-whole steps written (subst (λ (t : List ℕ). AreLexemes t (lexemes steps)) (sym canonical_is) are_lexemes)
+        grammar no_limit in
         let answers = ap (λ (o : Outcome Parts). o.0) (sym e ∙ whole) in
         let parts_same : parts ≡ written = cc answers in
         ap bare_parts (is ∙ parts_same) ∙ same
@@ -142,7 +165,8 @@ module _ (text : List ℕ) (tokens : List Token) (are : IsTokens text tokens) wh
         → text ≡ canonical tree → ⊥
     no-stop law stop left tree e canonical_is =
         let (steps, written, are_lexemes, grammar, no_limit, same) = round-trip law tree in
-        let (at, whole) = parts-whole steps written (subst (λ (t : List ℕ). AreLexemes t (lexemes steps)) (sym canonical_is) are_lexemes) grammar no_limit in
+        let (at, whole) = parts-whole steps written (subst (λ (t : List ℕ). AreLexemes t (lexemes steps)) (sym canonical_is) are_lexemes)
+        grammar no_limit in
         let answers = ap (λ (o : Outcome Parts). o.0) (sym e ∙ whole) in
         cc answers
 

@@ -1,5 +1,6 @@
 -- The pieces of the parts of items are spelled as the same parts but for places.
-use Rattle.std.proofs.Common.{◌≡◌, ◌∙◌, ℕ, ◌+◌, ◌≤◌, ◌<◌, ◌&&◌, Bool, true, false, List, [], ◌∷◌, ◌++◌, codes, decimal, length, map, nat_le, Some, refl, sym, ap}
+use Rattle.std.proofs.Common.{◌≡◌, ◌∙◌, ℕ, ◌+◌, ◌≤◌, ◌<◌, ◌&&◌, Bool, true, false, List, [], ◌∷◌, ◌++◌, codes, decimal, length, map, nat_le}
+use Rattle.std.proofs.Common.{Some, refl, sym, ap}
 use Rattle.std.specs.List.{flat_map, list_all}
 use Rattle.std.proofs.lemmas.Bool.{and_parts, leb-true, lt-leb, true≢false}
 use Rattle.std.proofs.lemmas.List.{length-append, length-map, map-append}

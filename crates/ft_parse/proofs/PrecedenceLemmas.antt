@@ -1,5 +1,6 @@
 -- What may stand within an expression, and one turn of a chain of operands.
-use Rattle.std.proofs.Common.{◌≡◌, ◌∙◌, refl, ℕ, zero, suc, ◌≤◌, ◌<◌, Bool, true, false, List, [], ◌∷◌, length, Option, Some, None, Ok, Err, codes}
+use Rattle.std.proofs.Common.{◌≡◌, ◌∙◌, refl, ℕ, zero, suc, ◌≤◌, ◌<◌, Bool, true, false, List, [], ◌∷◌, length, Option, Some, None, Ok, Err}
+use Rattle.std.proofs.Common.{codes}
 use Rattle.ft_base.specs.declared.place.Place.{Place}
 use Rattle.ft_tree.specs.declared.expr.Expr.{Expr}
 use Rattle.ft_tree.specs.declared.expr.Expr.TheVariants as expr
@@ -20,7 +21,8 @@ use Rattle.ft_read.specs.declared.operators.Precedence.TheVariants.{Disjunction,
 use Rattle.ft_read.specs.declared.parts.Site.{Site}
 use Rattle.ft_read.specs.declared.parts.Operator.{Operator}
 use Rattle.ft_read.specs.declared.stop.Stop.TheVariants.{Syntax}
-use Rattle.ft_parse.proofs.Shorter.{AtMost, Keeps, Shortens, alternative-keeps, alternative-shortens, repetition-end, first-then, gives, keeps, less}
+use Rattle.ft_parse.proofs.Shorter.{AtMost, Keeps, Shortens, alternative-keeps, alternative-shortens, repetition-end, first-then, gives}
+use Rattle.ft_parse.proofs.Shorter.{keeps, less}
 use Rattle.ft_parse.proofs.Shorter.{many-keeps, part-then, token, turn}
 
 nested-is : (room : ℕ) (site : Site) (nest : Nest) (s : ParserState)
@@ -118,7 +120,8 @@ module _ (site : Site) (inner : Nest → Parser Expr) (room : ℕ) (within-keeps
   unfolding atom_by
   atom-shortens =
       alternative-shortens _ _ _ (token as_simple (within site))
-      (alternative-shortens _ _ _ (history-shortens (codes "prev") expr.Prev) (alternative-shortens _ _ _ (history-shortens (codes "age") expr.Age) group-shortens))
+      (alternative-shortens _ _ _ (history-shortens (codes "prev") expr.Prev)
+      (alternative-shortens _ _ _ (history-shortens (codes "age") expr.Age) group-shortens))
 
   prefixed-shortens : (read : Lexeme → Option Place) (nest : Nest) (make : Expr → Place → Expr)
       → Shortens (prefixed_by site room read (inner nest) make)
@@ -151,7 +154,8 @@ module _ (site : Site) (inner : Nest → Parser Expr) (room : ℕ) (within-keeps
   comparison-shortens : Shortens (comparison_by site inner room)
   unfolding comparison_by
   comparison-shortens =
-      first-then _ _ sum-shortens (λ left. alternative-keeps _ _ _ (keeps _ (right-shortens as_relation (sum_by site inner room) sum-shortens left)) (gives left))
+      first-then _ _ sum-shortens (λ left. alternative-keeps _ _ _ (keeps _
+      (right-shortens as_relation (sum_by site inner room) sum-shortens left)) (gives left))
 
   negation-shortens : Shortens (negation_by site inner room)
   unfolding negation_by
@@ -181,7 +185,10 @@ nested-shortens : (room : ℕ) (site : Site) (nest : Nest) → Shortens (nested_
 unfolding nested_by
 nested-shortens zero site nest = record { by = λ n s e. (layer-shortens site refuse zero refuse-keeps nest).by n s e }
 nested-shortens (suc room) site nest =
-    record { by = λ n s e. (layer-shortens site (nested_by room site) (suc room) (λ other. keeps _ (nested-shortens room site other)) nest).by n s e }
+    record {
+      by = λ n s e. (layer-shortens site (nested_by room site) (suc room) (λ other. keeps _ (nested-shortens room site other))
+          nest).by n s e;
+    }
 
 inner-keeps : (room : ℕ) (site : Site) (nest : Nest) → Keeps (inner_by room site nest)
 inner-keeps zero site nest = refuse-keeps nest
@@ -200,7 +207,8 @@ expression-shortens is_beyond = record { by = λ n s e. of-first is_beyond n s.a
 part-shortens : (precedence : Precedence) (site : Site) (room : ℕ) (left : Expr)
     → Shortens (right_by site (ops_of precedence) (operand_by precedence site (inner_by room site) room) left)
 part-shortens precedence site room left =
-    right-shortens site (inner_by room site) room (inner-keeps room site) (ops_of precedence) (operand_by precedence site (inner_by room site) room)
+    right-shortens site (inner_by room site) room (inner-keeps room site) (ops_of precedence)
+    (operand_by precedence site (inner_by room site) room)
     (operand-shortens site (inner_by room site) room (inner-keeps room site) precedence) left
 
 pub chain_turn : (precedence : Precedence) (site : Site) (room : ℕ) (left : Expr) (s : ParserState)
@@ -209,14 +217,16 @@ pub chain_turn : (precedence : Precedence) (site : Site) (room : ℕ) (left : Ex
     ≡ bind (many (can (ops_of precedence)) (right_by site (ops_of precedence) (operand_by precedence site (inner_by room site) room)))
     (right_by site (ops_of precedence) (operand_by precedence site (inner_by room site) room) left s)
 chain_turn precedence site room left s e =
-    turn (can (ops_of precedence)) (right_by site (ops_of precedence) (operand_by precedence site (inner_by room site) room)) (part-shortens precedence site room) left s.at s.rest e
+    turn (can (ops_of precedence)) (right_by site (ops_of precedence) (operand_by precedence site (inner_by room site) room))
+    (part-shortens precedence site room) left s.at s.rest e
 
 pub chain_end : (precedence : Precedence) (site : Site) (room : ℕ) (left : Expr) (s : ParserState)
     → begins (can (ops_of precedence)) s.rest ≡ false
     → many (can (ops_of precedence)) (right_by site (ops_of precedence) (operand_by precedence site (inner_by room site) room)) left s
     ≡ (Ok left, s)
 chain_end precedence site room left s e =
-    repetition-end (can (ops_of precedence)) (right_by site (ops_of precedence) (operand_by precedence site (inner_by room site) room)) (part-shortens precedence site room) left s.at s.rest e
+    repetition-end (can (ops_of precedence)) (right_by site (ops_of precedence) (operand_by precedence site (inner_by room site) room))
+    (part-shortens precedence site room) left s.at s.rest e
 
 pub chain_less : (precedence : Precedence) (site : Site) (room : ℕ) (left next : Expr) (s after : ParserState)
     → begins (can (ops_of precedence)) s.rest ≡ true

@@ -1,5 +1,6 @@
 -- Names of a text are spelled as names are, and a token that passes no limit is a lawful name or number.
-use Rattle.std.proofs.Common.{◌≡◌, ◌∙◌, ℕ, suc, ◌+◌, ◌-◌, Bool, true, false, not, ◌&&◌, cond, List, [], ◌∷◌, ◌++◌, drop, length, nat_le, take, Option, Some, None, refl, sym, ap, subst}
+use Rattle.std.proofs.Common.{◌≡◌, ◌∙◌, ℕ, suc, ◌+◌, ◌-◌, Bool, true, false, not, ◌&&◌, cond, List, [], ◌∷◌, ◌++◌, drop, length, nat_le}
+use Rattle.std.proofs.Common.{take, Option, Some, None, refl, sym, ap, subst}
 use native.Mathlib.Omega.{arith}
 use Rattle.std.specs.Bool.{MatchBool}
 use Rattle.std.specs.List.{list_all, prefix_len}

@@ -12,7 +12,8 @@ pub rises-same : {A : Type 0} (L : Language A) → Rises (λ n. L) L
 rises-same L = record { up = λ n m at steps a h. h; bound = λ at steps a h. (0, h); back = λ n at steps a h. h }
 
 -- up from the right
-pub upper : {A : Type 0} (F : ℕ → Language A) (L : Language A) → Rises F L → (n m at : ℕ) (steps : List Step) (a : A) → F m at steps a → F (n + m) at steps a
+pub upper : {A : Type 0} (F : ℕ → Language A) (L : Language A) → Rises F L → (n m at : ℕ) (steps : List Step) (a : A) → F m at steps a
+    → F (n + m) at steps a
 upper F L r n m at steps a h =
     let same : m + n ≡ n + m = omega arith in
     rw same at (r.up m n at steps a h)

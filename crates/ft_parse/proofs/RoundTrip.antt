@@ -1,5 +1,6 @@
 -- The canonical text of a tree spells a tree that is the same but for places.
-use Rattle.std.proofs.Common.{◌≡◌, ◌∙◌, ℕ, ◌+◌, ◌≤◌, ◌&&◌, Bool, true, false, cond, List, [], ◌∷◌, ◌++◌, codes, decimal, map, Option, Some, None, refl, sym, ap, append_assoc}
+use Rattle.std.proofs.Common.{◌≡◌, ◌∙◌, ℕ, ◌+◌, ◌≤◌, ◌&&◌, Bool, true, false, cond, List, [], ◌∷◌, ◌++◌, codes, decimal, map, Option, Some}
+use Rattle.std.proofs.Common.{None, refl, sym, ap, append_assoc}
 use Rattle.std.specs.List.{count_by, flat_map, list_all, sum_by}
 use Rattle.std.proofs.lemmas.Bool.{and_parts, lt-leb}
 use Rattle.std.proofs.lemmas.List.{length-map}
@@ -175,7 +176,14 @@ set-written name period splits depth items h =
     and_then {G = λ m. bare_option m ≡ bare_option depth} (setting-written (codes "depth") depth refl deep) (λ d same_depth.
     and_then {G = λ xs. map bare_item xs ≡ map bare_item items} (items-written items h.parts h.counts h.facts) (λ xs same_items.
     next {G = λ _. Unit {0}} (one (token_kind.End, []) (λ place. (place, refl, refl, tt))) (λ _ _.
-    none (λ i. record { name = text i; period = record { value = same i; place = start }; splits = same_splits i; depth = same_depth i; items = same_items i })))))))))))))
+    none (λ i. record {
+      name = text i;
+      period = record { value = same i; place = start };
+      splits = same_splits i;
+      depth =
+          same_depth i;
+      items = same_items i;
+    })))))))))))))
 
 -- by the law of canonical tokens
 pub round-trip : CanonicalTokens → (tree : Tree) → (steps : List Step) × (parts : Parts)

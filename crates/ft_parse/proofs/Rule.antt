@@ -19,7 +19,8 @@ pub record Rule {A : Type 0} (L : Language A) (p : Parser A) (more : Lexeme → 
 pub rule-give : {A : Type 0} (a : A) → Rule (nothing a) (give a) never
 rule-give a = record { faithful = faithful-give a; whole = whole-give a; some = λ at. ([], a, (refl, refl)) }
 
-pub rule-token : {A : Type 0} (read : Lexeme → Option A) (passes : Passes) (l : Lexeme) (a : A) → read l ≡ Some a → Rule (token read passes) (read_token read passes) never
+pub rule-token : {A : Type 0} (read : Lexeme → Option A) (passes : Passes) (l : Lexeme) (a : A) → read l ≡ Some a
+    → Rule (token read passes) (read_token read passes) never
 rule-token read passes l a e = record {
   faithful = faithful-token read passes (λ at. (step l (passes at l) ∷ [], a, (l, refl, e)));
   whole = whole-token read passes;
@@ -38,7 +39,8 @@ module _ {A B : Type 0} (L : Language A) (M : A → Language B) (p : Parser A) (
       (us ++ vs, b, (a, us, vs, refl, h, k))
 
   -- a part that may go on, and another whose texts don't begin so
-  pub rule-then : (more after : Lexeme → Bool) → ((a : A) → Calms (M a) more after) → Rule L p more → ((a : A) → Rule (M a) (q a) after) → Rule (L ▷ M) (p ▶ q) after
+  pub rule-then : (more after : Lexeme → Bool) → ((a : A) → Calms (M a) more after) → Rule L p more → ((a : A) → Rule (M a) (q a) after)
+      → Rule (L ▷ M) (p ▶ q) after
   rule-then more after calms r t = record {
     faithful = λ s. faithful-then L M p q (λ a. (t a).some) s (p s) (r.faithful s) (λ a mid g. (t a).faithful mid);
     whole = whole-then L M p q more after r.whole (λ a. (t a).whole) calms;
@@ -77,7 +79,8 @@ module _ {A : Type 0} (L M : Language A) (test : Lexeme → Bool) (p q : Parser 
   }
 
 module _ {A : Type 0} (part : A → Language A) (test : Lexeme → Bool) (p : A → Parser A) (inner after : Lexeme → Bool) where
-  pub rule-many : ((a : A) → Heads (part a) test) → Apart test inner → Under inner after → Under test after → ((a : A) → Rule (part a) (p a) inner)
+  pub rule-many : ((a : A) → Heads (part a) test) → Apart test inner → Under inner after → Under test after
+      → ((a : A) → Rule (part a) (p a) inner)
       → (a : A) → Rule (repeated part a) (many test p a) after
   rule-many heads apart inner-under test-under r a = record {
     faithful = faithful-many part test p (λ b. (r b).faithful) heads a;

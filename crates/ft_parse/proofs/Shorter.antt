@@ -1,8 +1,10 @@
 -- Reading takes tokens away and puts none back.
-use Rattle.std.proofs.Common.{◌≡◌, refl, sym, ap, true≢false, ℕ, zero, suc, ◌≤◌, ◌<◌, subst, arith, Bool, true, false, List, [], ◌∷◌, length, Option, Some, None, Ok, Err, if◌then◌else◌}
+use Rattle.std.proofs.Common.{◌≡◌, refl, sym, ap, true≢false, ℕ, zero, suc, ◌≤◌, ◌<◌, subst, arith, Bool, true, false, List, [], ◌∷◌}
+use Rattle.std.proofs.Common.{length, Option, Some, None, Ok, Err, if◌then◌else◌}
 use Rattle.ft_read.specs.meaning.Lexeme.{Lexeme}
 use Rattle.ft_read.specs.meaning.Limit.{Passes}
-use Rattle.ft_read.specs.parsers.Combinators.{Outcome, Parser, ParserState, begins, alternative_by, give, bind, read_token, state, token_as, token_of}
+use Rattle.ft_read.specs.parsers.Combinators.{Outcome, Parser, ParserState, begins, alternative_by, give, bind, read_token, state, token_as}
+use Rattle.ft_read.specs.parsers.Combinators.{token_of}
 use Rattle.ft_read.specs.parsers.Combinators.{◌▶◌}
 use Rattle.ft_parse.specs.parsers.Repetition.{many, many_by}
 use Rattle.ft_read.specs.declared.stop.Pass.{Pass}
@@ -25,13 +27,15 @@ pub at-most-then : {A B : Type 0} (n m : ℕ) (next : A → Parser B) (o : Outco
 at-most-then n m next (Ok a, left) e f = f a left e
 at-most-then n m next (Err stop, left) e f = tt
 
-token-as : {A : Type 0} (n : ℕ) (found : Option A) (pass : Option Pass) (at : ℕ) (l : Lexeme) (rest : List Lexeme) → length (l ∷ rest) ≤ suc n
+token-as : {A : Type 0} (n : ℕ) (found : Option A) (pass : Option Pass) (at : ℕ) (l : Lexeme) (rest : List Lexeme)
+    → length (l ∷ rest) ≤ suc n
     → AtMost n (token_as found pass at l rest)
 token-as n None pass at l rest e = tt
 token-as n (Some a) None at l rest e = omega (arith, e)
 token-as n (Some a) (Some pass) at l rest e = tt
 
-token-of : {A : Type 0} (read : Lexeme → Option A) (passes : Passes) (n at : ℕ) (rest : List Lexeme) → length rest ≤ suc n → AtMost n (token_of read passes at rest)
+token-of : {A : Type 0} (read : Lexeme → Option A) (passes : Passes) (n at : ℕ) (rest : List Lexeme) → length rest ≤ suc n
+    → AtMost n (token_of read passes at rest)
 token-of read passes n at [] e = tt
 token-of read passes n at (l ∷ rest) e = token-as n (read l) (passes at l) at l rest e
 

@@ -21,13 +21,15 @@ pub row-shortens : (before : ℕ) → Shortens (row_by before)
 unfolding row_by
 row-shortens before =
     begin (row-word-shortens before) (λ place. next (expression-shortens false) (λ head. next (sign-shortens (codes ":")) (λ _.
-    next entries-shortens (λ cells. next (sign-shortens (codes ";")) (λ _. gives (record { place = place; head = head; entries = cells }))))))
+    next entries-shortens (λ cells. next (sign-shortens (codes ";")) (λ _. gives
+    (record { place = place; head = head; entries = cells }))))))
 
 pub vrow-shortens : (before : ℕ) → Shortens (vrow_by before)
 unfolding vrow_by
 vrow-shortens before =
     begin (row-word-shortens before) (λ place. next name-shortens (λ target. next (sign-shortens (codes ":")) (λ _.
-    next entries-shortens (λ cells. next (sign-shortens (codes ";")) (λ _. gives (record { place = place; target = target; entries = cells }))))))
+    next entries-shortens (λ cells. next (sign-shortens (codes ";")) (λ _. gives
+    (record { place = place; target = target; entries = cells }))))))
 
 -- one part and any number of others
 module _ {A : Type 0} (test : Lexeme → Bool) (part : ℕ → Parser A) (shortens : (n : ℕ) → Shortens (part n)) where

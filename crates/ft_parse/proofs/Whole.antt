@@ -5,7 +5,8 @@ use native.Mathlib.Omega.{arith}
 use Rattle.ft_read.specs.meaning.Lexeme.{Lexeme}
 use Rattle.ft_parse.specs.meaning.Language.{Language, Step, alternative, lexemes, nothing, repeated, times, token, ◌▷◌}
 use Rattle.ft_read.specs.meaning.Limit.{Passes}
-use Rattle.ft_read.specs.parsers.Combinators.{Outcome, Parser, ParserState, begins, alternative_by, give, bind, read_token, state, token_of, ◌▶◌}
+use Rattle.ft_read.specs.parsers.Combinators.{Outcome, Parser, ParserState, begins, alternative_by, give, bind, read_token, state, token_of}
+use Rattle.ft_read.specs.parsers.Combinators.{◌▶◌}
 use Rattle.ft_parse.specs.parsers.Repetition.{many}
 use Rattle.ft_read.specs.declared.stop.Pass.{Pass}
 use Rattle.ft_read.specs.declared.stop.Stop.TheVariants.{Limit}
@@ -28,7 +29,8 @@ Whole {A} L p more = (at : ℕ) (steps : List Step) (a : A) (rest : List Lexeme)
 
 -- what follows a text of the part doesn't go on with what stands before it
 abbrev pub Calms : {A : Type 0} → Language A → (before after : Lexeme → Bool) → Type 0
-Calms {A} L before after = (at : ℕ) (steps : List Step) (a : A) (rest : List Lexeme) → L at steps a → begins after rest ≡ false → begins before (lexemes steps ++ rest) ≡ false
+Calms {A} L before after = (at : ℕ) (steps : List Step) (a : A) (rest : List Lexeme) → L at steps a → begins after rest ≡ false
+    → begins before (lexemes steps ++ rest) ≡ false
 
 abbrev pub never : Lexeme → Bool
 never l = false
@@ -56,17 +58,18 @@ module _ {A B : Type 0} (L : Language A) (M : A → Language B) (p : Parser A) (
   then-expected at [] vs a b rest e =
       let none : at + length {A = Step} [] ≡ at = omega arith in
       rw none at e
-  then-expected at (u ∷ us) vs a b rest e = by-pass at u us vs a b rest u.pass (then-expected (suc at) us vs a b rest (rw (counted at u us) at e)) where
-    counted : (at : ℕ) (u : Step) (us : List Step) → at + length (u ∷ us) ≡ suc at + length us
-    counted at u us = omega arith
+  then-expected at (u ∷ us) vs a b rest e = by-pass at u us vs a b rest u.pass
+      (then-expected (suc at) us vs a b rest (rw (counted at u us) at e)) where
+        counted : (at : ℕ) (u : Step) (us : List Step) → at + length (u ∷ us) ≡ suc at + length us
+        counted at u us = omega arith
 
-    by-pass : (at : ℕ) (u : Step) (us vs : List Step) (a : A) (b : B) (rest : List Lexeme) (pass : Option Pass)
-        → bind q (expected (suc at) us a (lexemes vs ++ rest)) ≡ expected (suc at) (us ++ vs) b rest
-        → bind q (met at u.lexeme (lexemes us ++ (lexemes vs ++ rest)) pass (expected (suc at) us a (lexemes vs ++ rest)))
-        ≡ met at u.lexeme (lexemes (us ++ vs) ++ rest) pass (expected (suc at) (us ++ vs) b rest)
-    by-pass at u us vs a b rest None f = f
-    by-pass at u us vs a b rest (Some pass) f =
-        ap (λ (ls : List Lexeme). (Err (Limit pass), state at (u.lexeme ∷ ls))) (sym (two-parts us vs rest))
+        by-pass : (at : ℕ) (u : Step) (us vs : List Step) (a : A) (b : B) (rest : List Lexeme) (pass : Option Pass)
+            → bind q (expected (suc at) us a (lexemes vs ++ rest)) ≡ expected (suc at) (us ++ vs) b rest
+            → bind q (met at u.lexeme (lexemes us ++ (lexemes vs ++ rest)) pass (expected (suc at) us a (lexemes vs ++ rest)))
+            ≡ met at u.lexeme (lexemes (us ++ vs) ++ rest) pass (expected (suc at) (us ++ vs) b rest)
+        by-pass at u us vs a b rest None f = f
+        by-pass at u us vs a b rest (Some pass) f =
+            ap (λ (ls : List Lexeme). (Err (Limit pass), state at (u.lexeme ∷ ls))) (sym (two-parts us vs rest))
 
   pub whole-then : Whole L p more → ((a : A) → Whole (M a) (q a) after) → ((a : A) → Calms (M a) more after) → Whole (L ▷ M) (p ▶ q) after
   unfolding ◌▷◌
@@ -76,7 +79,8 @@ module _ {A B : Type 0} (L : Language A) (M : A → Language B) (p : Parser A) (
       ∙ ap (bind q) (first at us a (lexemes vs ++ rest) h (calms a (at + length us) vs b rest k e))
       ∙ then-expected at us vs a b rest (second a (at + length us) vs b rest k e))
 
-pub heads-begin : {A : Type 0} (L : Language A) (test : Lexeme → Bool) → Heads L test → (at : ℕ) (steps : List Step) (a : A) (rest : List Lexeme) → L at steps a
+pub heads-begin : {A : Type 0} (L : Language A) (test : Lexeme → Bool) → Heads L test
+    → (at : ℕ) (steps : List Step) (a : A) (rest : List Lexeme) → L at steps a
     → begins test (lexemes steps ++ rest) ≡ true
 heads-begin L test heads at steps a rest h =
     let (s, more, is, e) = heads at steps a h in
@@ -97,7 +101,8 @@ Under small big = (l : Lexeme) → small l ≡ true → big l ≡ true
 abbrev pub Apart : (Lexeme → Bool) → (Lexeme → Bool) → Type 0
 Apart one other = (l : Lexeme) → one l ≡ true → other l ≡ false
 
-pub begins-under : (small big : Lexeme → Bool) → Under small big → (rest : List Lexeme) → begins big rest ≡ false → begins small rest ≡ false
+pub begins-under : (small big : Lexeme → Bool) → Under small big → (rest : List Lexeme) → begins big rest ≡ false → begins small rest
+    ≡ false
 begins-under small big under [] e = refl
 begins-under small big under (l ∷ rest) e = by-test l (small l) refl e where
   by-test : (l : Lexeme) (b : Bool) → small l ≡ b → big l ≡ false → small l ≡ false
@@ -108,10 +113,12 @@ begins-apart : (one other : Lexeme → Bool) → Apart one other → (rest : Lis
 begins-apart one other apart [] e = refl
 begins-apart one other apart (l ∷ rest) e = apart l e
 
-pub whole-weaker : {A : Type 0} (L : Language A) (p : Parser A) (small big : Lexeme → Bool) → Under small big → Whole L p small → Whole L p big
+pub whole-weaker : {A : Type 0} (L : Language A) (p : Parser A) (small big : Lexeme → Bool) → Under small big → Whole L p small
+    → Whole L p big
 whole-weaker L p small big under whole at steps a rest h e = whole at steps a rest h (begins-under small big under rest e)
 
-pub calms-by-heads : {A : Type 0} (L : Language A) (test before after : Lexeme → Bool) → Heads L test → Apart test before → Calms L before after
+pub calms-by-heads : {A : Type 0} (L : Language A) (test before after : Lexeme → Bool) → Heads L test → Apart test before
+    → Calms L before after
 calms-by-heads L test before after heads apart at steps a rest h e =
     begins-apart test before apart (lexemes steps ++ rest) (heads-begin L test heads at steps a rest h)
 
@@ -145,7 +152,8 @@ module _ {A : Type 0} (part : A → Language A) (test : Lexeme → Bool) (p : A 
       let (s, more, head, t) = heads a at us c h in
       let turn : many test p a (state at (lexemes steps ++ rest)) ≡ bind (many test p) (p a (state at (lexemes steps ++ rest))) =
       rw (is, head) (many-step part test p faithful heads a at s.lexeme (lexemes (more ++ vs) ++ rest) t) in
-      turn ∙ whole-then (part a) (times n part) (p a) (many test p) inner after (whole a) (many-whole whole n) (times-calms n) at steps b rest (c, us, vs, is, h, k) e
+      turn ∙ whole-then (part a) (times n part) (p a) (many test p) inner after (whole a) (many-whole whole n) (times-calms n) at steps b
+      rest (c, us, vs, is, h, k) e
 
   pub whole-many : ((a : A) → Whole (part a) (p a) inner) → (a : A) → Whole (repeated part a) (many test p a) after
   whole-many whole a at steps b rest (n, h) e = many-whole whole n a at steps b rest h e

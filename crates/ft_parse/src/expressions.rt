@@ -7,7 +7,8 @@ ghost use Rattle.ft_parse.specs.parsers.Precedence.{inner_by, precedence_by, ope
 ghost use Rattle.ft_read.specs.parsers.Tokens.{ops_of};
 ghost use Rattle.ft_read.specs.meaning.Lexeme.{as_sign, as_word};
 ghost use Rattle.ft_read.specs.parsers.Combinators.{Gives};
-ghost use Rattle.ft_parse.specs.parsers.Expressions.{atom_by, comparison_by, expression_by, group_by, history_by, negation_by, prefixed_by, right_by, unary_by};
+ghost use Rattle.ft_parse.specs.parsers.Expressions.{atom_by, comparison_by, expression_by, group_by, history_by, negation_by, prefixed_by};
+ghost use Rattle.ft_parse.specs.parsers.Expressions.{right_by, unary_by};
 
 use ft_base::{Boxed, NoMemory, Place, Text};
 use ft_read::{

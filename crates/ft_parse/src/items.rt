@@ -1,6 +1,7 @@
 ghost use Rattle.std.specs.Prelude.{◌≡◌, codes};
 ghost use Rattle.ft_read.specs.meaning.Lexeme.{as_sign};
-ghost use Rattle.ft_parse.specs.parsers.Items.{clause_by, constant_by, item_part_by, members_by, range_type_by, sided_by, signed_number_by, type_item_by};
+ghost use Rattle.ft_parse.specs.parsers.Items.{clause_by, constant_by, item_part_by, members_by, range_type_by, sided_by, signed_number_by};
+ghost use Rattle.ft_parse.specs.parsers.Items.{type_item_by};
 ghost use Rattle.ft_read.specs.parsers.Combinators.{Gives, can, alternative_by};
 ghost use Rattle.ft_parse.specs.parsers.Steps.{worded_by};
 

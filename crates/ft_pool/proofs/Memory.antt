@@ -66,7 +66,8 @@ module _ (E : El) {M : Type 1} {𝓤 : Ura M} (𝓛 : Logic 𝓤) (b : ℕ) wher
   place_out o zero xs i near inside = absurd (omega arith)
   place_out o (suc n) [] zero near inside = qed 𝓛 (‵ (row o (suc n) []) ∷ []) ∵
       use1 𝓛 (‵ (froom (ty_array (elτ E) (suc n)) b o)) (𝓛.laws.raw-room (ty_array (elτ E) (suc n)) b o) $
-      use1 𝓛 (‵ (froom (elτ E) b o) ⊛ ‵ (froom (ty_array (elτ E) n) b (o + s))) (𝓛.laws.room_uncons (elτ E) n b o) $ split ! $ move ! (1 ∷ []) $
+      use1 𝓛 (‵ (froom (elτ E) b o) ⊛ ‵ (froom (ty_array (elτ E) n) b (o + s))) (𝓛.laws.room_uncons (elτ E) n b o) $ split ! $ move !
+      (1 ∷ []) $
       use1 𝓛 (‵ (froom (block_of (R E) n) b (o + s))) (𝓛.laws.room-raw (ty_array (elτ E) n) b (o + s)) $ move ! (1 ∷ []) $
       rewrite ! 0 (λ (k : ℕ). ‵ (froom (elτ E) b k)) (sym (here s o)) refl $ done !
   place_out o (suc n) [] (suc i) near inside = absurd (let above : suc i ≤ 0 = near in omega arith)
@@ -87,12 +88,14 @@ module _ (E : El) {M : Type 1} {𝓤 : Ura M} (𝓛 : Logic 𝓤) (b : ℕ) wher
       rewrite ! 0 (λ (k : ℕ). ‵ (one x k)) (here s o) refl $ done !
   fills o (suc n) (y ∷ ys) (suc i) near inside x = qed 𝓛 (‵ (one x (suc i * s + o)) ∷ ‵ (besides E b o (suc n) (y ∷ ys) (suc i)) ∷ []) ∵
       rewrite ! 0 (λ (k : ℕ). ‵ (one x k)) (sym (further s o i)) refl $ move ! (1 ∷ []) $ fsplit ! $ move ! (2 ∷ 1 ∷ []) $
-      use2 𝓛 (‵ (row (o + s) n (put_at ys i x))) (fills (o + s) n ys i (let below : suc i ≤ suc (length ys) = near in omega arith) (omega arith) x) $
+      use2 𝓛 (‵ (row (o + s) n (put_at ys i x))) (fills (o + s) n ys i (let below : suc i ≤ suc (length ys) = near in omega arith)
+      (omega arith) x) $
       move ! (1 ∷ 0 ∷ []) $ done !
 
   -- the bytes of a value, written where the i-th place begins, are that place
   pub place_in : (o n : ℕ) (xs : List (el_x E)) (i : ℕ) → i ≤ length xs → i < n → (x : el_x E) (v : Val)
-      → ent 𝓤 (sep 𝓤 (H.at full_share (elτ E) b (i * s + o) v) (sep 𝓤 (sem 𝓛 (E.row.own_val x (v ∷ []))) (sem 𝓛 (besides E b o n xs i)))) (sem 𝓛 (row o n (put_at xs i x)))
+      → ent 𝓤 (sep 𝓤 (H.at full_share (elτ E) b (i * s + o) v) (sep 𝓤 (sem 𝓛 (E.row.own_val x (v ∷ []))) (sem 𝓛 (besides E b o n xs i))))
+      (sem 𝓛 (row o n (put_at xs i x)))
   place_in o n xs i near inside x v =
       qed 𝓛 (‵ (fat full_share (elτ E) b (i * s + o) v) ∷ ‵ (E.row.own_val x (v ∷ [])) ∷ ‵ (besides E b o n xs i) ∷ []) ∵
       use2 𝓛 (‵ (one x (i * s + o))) (el_in E 𝓛 b x (i * s + o) v) $ by ! (fills o n xs i near inside x)

@@ -1,5 +1,6 @@
 -- A list with one value put into a place, and without its last.
-use Rattle.std.proofs.Common.{◌≡◌, ℕ, zero, suc, ◌+◌, ◌-◌, ◌<◌, ◌≤◌, List, [], ◌∷◌, ◌++◌, length, take, refl, sym, ap, subst, ◌∙◌, Some, slice_get, arith}
+use Rattle.std.proofs.Common.{◌≡◌, ℕ, zero, suc, ◌+◌, ◌-◌, ◌<◌, ◌≤◌, List, [], ◌∷◌, ◌++◌, length, take, refl, sym, ap, subst, ◌∙◌, Some}
+use Rattle.std.proofs.Common.{slice_get, arith}
 use Rattle.std.specs.Prelude.{slice_index_or, slice_set}
 use Rattle.std.proofs.lemmas.List.{get_or-take, length-take-le, take_more}
 use Rattle.std.proofs.lemmas.Option.{get_or_from_slice_get, slice_get_within}
@@ -15,13 +16,15 @@ module _ {X : Type 0} where
   put_at-fits (y ∷ ys) zero n x fits inside = fits
   put_at-fits (y ∷ ys) (suc i) zero x fits inside = absurd (omega arith)
   put_at-fits (y ∷ ys) (suc i) (suc n) x fits inside =
-      let less : suc (length ys) ≤ suc n = fits in let rest : length (put_at ys i x) ≤ n = put_at-fits ys i n x (omega arith) (omega arith) in
+      let less : suc (length ys) ≤ suc n = fits in let rest : length (put_at ys i x) ≤ n =
+      put_at-fits ys i n x (omega arith) (omega arith) in
       let all : suc (length (put_at ys i x)) ≤ suc n = omega arith in all
 
   pub put_at-keeps : (xs : List X) (i : ℕ) (x : X) → length xs ≤ length (put_at xs i x)
   put_at-keeps [] i x = omega arith
   put_at-keeps (y ∷ ys) zero x = omega arith
-  put_at-keeps (y ∷ ys) (suc i) x = let rest = put_at-keeps ys i x in let all : suc (length ys) ≤ suc (length (put_at ys i x)) = omega arith in all
+  put_at-keeps (y ∷ ys) (suc i) x = let rest = put_at-keeps ys i x in let all : suc (length ys) ≤ suc (length (put_at ys i x)) =
+      omega arith in all
 
   pub put_at-reaches : (xs : List X) (n : ℕ) (x : X) → n ≤ length xs → n + 1 ≤ length (put_at xs n x)
   put_at-reaches [] zero x near = omega arith
@@ -59,12 +62,15 @@ module _ {X : Type 0} where
 pub ruleset puts = (put_at-keeps, put_at-reaches, put_at-adds, put_at-sets, put_at-counts, put_at-counts_on, length-take-le)
 
 -- the last value, and those before it
-pub split_last : {X : Type 0} (xs items : List X) (n : ℕ) (x : X) → n ≤ length xs → items ≡ take n xs → slice_get items (length items - 1) ≡ Some x → items ≡ take (n - 1) xs ++ x ∷ []
+pub split_last : {X : Type 0} (xs items : List X) (n : ℕ) (x : X) → n ≤ length xs → items ≡ take n xs → slice_get items (length items - 1)
+    ≡ Some x → items ≡ take (n - 1) xs ++ x ∷ []
 split_last {X = X} xs items n x small is got =
     let long : length items ≡ n = ap length is ∙ length-take-le n xs small in
     let some = slice_get_within items (length items - 1) x got in
     let more : n - 1 + 1 ≡ n = omega (arith, long, some) in
     let at : slice_get items (n - 1) ≡ Some x = subst (λ (k : ℕ). slice_get items (k - 1) ≡ Some x) long got in
     let value : slice_index_or xs (n - 1) x ≡ x =
-    sym (get_or-take n xs (n - 1) x (omega (arith, more))) ∙ ap (λ (l : List X). slice_index_or l (n - 1) x) (sym is) ∙ get_or_from_slice_get items (n - 1) x x at in
-    is ∙ ap (λ (k : ℕ). take k xs) (sym more) ∙ take_more xs (n - 1) x (omega (arith, more, small)) ∙ ap (λ (y : X). take (n - 1) xs ++ y ∷ []) value
+    sym (get_or-take n xs (n - 1) x (omega (arith, more))) ∙ ap (λ (l : List X). slice_index_or l (n - 1) x) (sym is)
+    ∙ get_or_from_slice_get items (n - 1) x x at in
+    is ∙ ap (λ (k : ℕ). take k xs) (sym more) ∙ take_more xs (n - 1) x (omega (arith, more, small))
+    ∙ ap (λ (y : X). take (n - 1) xs ++ y ∷ []) value

@@ -31,11 +31,14 @@ module _ {M : Type 1} {𝓤 : Ura M} (𝓛 : Logic 𝓤) (l : Lft) (R : RattleTy
   Lends-places b o n [] = Lends-nothing 𝓛 (places R b o n []) l
   Lends-places b o zero (x ∷ xs) = Lends-false 𝓛 (values_lent R b o (x ∷ xs)) l
   Lends-places b o (suc n) (x ∷ xs) =
-      Lends-both 𝓛 (part_at R full_share x b o) (places R b (o + type_size R) n xs) (shared_of R x b o) (values_lent R b (o + type_size R) xs) l
+      Lends-both 𝓛 (part_at R full_share x b o) (places R b (o + type_size R) n xs) (shared_of R x b o)
+      (values_lent R b (o + type_size R) xs) l
       (λ κ ts. Shares-less 𝓛 R R.lives l within (L.shares 𝓛) x κ ts b o) (Lends-places b (o + type_size R) n xs)
 
-  pub Lends-cells : (right : Ty → Ptr → Fml) (p : Ptr) (n : ℕ) (xs : List R.Denot) → Lends 𝓛 (cells_own R right p n xs) (cells_lent R p n xs) l
+  pub Lends-cells : (right : Ty → Ptr → Fml) (p : Ptr) (n : ℕ) (xs : List R.Denot)
+      → Lends 𝓛 (cells_own R right p n xs) (cells_lent R p n xs) l
   Lends-cells right (block_ptr b o) n xs =
-      Lends-both 𝓛 (short R n) (fsep (places R b o n xs) (right (block_of R n) (block_ptr b o))) (said (short R n)) (values_lent R b o xs) l (Lends-said 𝓛 (short R n) tt l)
+      Lends-both 𝓛 (short R n) (fsep (places R b o n xs) (right (block_of R n) (block_ptr b o))) (said (short R n)) (values_lent R b o xs) l
+      (Lends-said 𝓛 (short R n) tt l)
       (Lends-first 𝓛 (places R b o n xs) (right (block_of R n) (block_ptr b o)) (values_lent R b o xs) l (Lends-places b o n xs))
   Lends-cells right null_ptr n xs = Lends-false 𝓛 (said ffalse) l

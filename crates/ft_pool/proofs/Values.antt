@@ -54,14 +54,18 @@ start_good null_ptr = (tt, (record { fits = lit< tt }, tt))
 pub start_told : (E : El) (d : (Start E).Denot) (vs : List Val) → shadow ((Start E).own_val d vs) → vs ≡ start_val d.ptr ∷ []
 start_told E d vs s = s.1.0 ∙ (λ i. vstruct (of_list (s.1.1.0 i ++ [])) ∷ [])
 
-pub start_made : {M : Type 1} {𝓤 : Ura M} (𝓛 : Logic 𝓤) (E : El) (p : Ptr) → ent 𝓤 (emp 𝓤) (sem 𝓛 ((Start E).own_val (record { ptr = p }) (start_val p ∷ [])))
-start_made 𝓛 E p = makes_shadow 𝓛 ((Start E).own_val (record { ptr = p }) (start_val p ∷ [])) (λ _. (tt, (tt, tt))) ((ptr_val p ∷ [], tt), (refl, (refl, tt)))
+pub start_made : {M : Type 1} {𝓤 : Ura M} (𝓛 : Logic 𝓤) (E : El) (p : Ptr)
+    → ent 𝓤 (emp 𝓤) (sem 𝓛 ((Start E).own_val (record { ptr = p }) (start_val p ∷ [])))
+start_made 𝓛 E p = makes_shadow 𝓛 ((Start E).own_val (record { ptr = p }) (start_val p ∷ [])) (λ _. (tt, (tt, tt)))
+    ((ptr_val p ∷ [], tt), (refl, (refl, tt)))
 
 pub mark_told : (E : El) (Z : Al) (vs : List Val) → shadow ((Mark E Z).own_val (tt, tt) vs) → vs ≡ mark_val ∷ []
 mark_told E Z vs s = s.1.0 ∙ (λ i. vstruct (of_list (s.1.1.0.1.0 i ++ [])) ∷ [])
 
-pub mark_made : {M : Type 1} {𝓤 : Ura M} (𝓛 : Logic 𝓤) (E : El) (Z : Al) → ent 𝓤 (emp 𝓤) (sem 𝓛 ((Mark E Z).own_val (tt, tt) (mark_val ∷ [])))
-mark_made 𝓛 E Z = makes_shadow 𝓛 ((Mark E Z).own_val (tt, tt) (mark_val ∷ [])) (λ _. (tt, ((λ _. (tt, tt)), tt))) ((vstruct vnil ∷ [], tt), (refl, ((tt, (refl, tt)), tt)))
+pub mark_made : {M : Type 1} {𝓤 : Ura M} (𝓛 : Logic 𝓤) (E : El) (Z : Al)
+    → ent 𝓤 (emp 𝓤) (sem 𝓛 ((Mark E Z).own_val (tt, tt) (mark_val ∷ [])))
+mark_made 𝓛 E Z = makes_shadow 𝓛 ((Mark E Z).own_val (tt, tt) (mark_val ∷ [])) (λ _. (tt, ((λ _. (tt, tt)), tt)))
+    ((vstruct vnil ∷ [], tt), (refl, ((tt, (refl, tt)), tt)))
 
 abbrev pub taken_val : Ptr → Val
 taken_val p = vstruct (vcons (start_val p) (vcons mark_val vnil))
@@ -76,5 +80,7 @@ module _ (E : El) (Z : Al) where
       (sem 𝓛 (Taken.own_val (start, cells) (taken_val start.ptr ∷ [])))
   taken_made 𝓛 start cells =
       qed 𝓛 (‵ ((Start E).own_val start (start_val start.ptr ∷ [])) ∷ ‵ ((Cells E Z).own_val cells (mark_val ∷ [])) ∷ []) ∵
-      nothing ! $ move ! (2 ∷ 0 ∷ []) $ fjoin ! $ move ! (1 ∷ 0 ∷ []) $ fjoin ! $ feq_i ! (List Val) (taken_val start.ptr ∷ []) (taken_val start.ptr ∷ []) refl $ fjoin ! $
-      fpack ! (Valss (Start E ∷ Cells E Z ∷ [])) (within (Declared.shape (tuple_type (Start E ∷ Cells E Z ∷ []))) (start, (cells, tt)) (taken_val start.ptr ∷ [])) (start_val start.ptr ∷ [], (mark_val ∷ [], tt)) $ done !
+      nothing ! $ move ! (2 ∷ 0 ∷ []) $ fjoin ! $ move ! (1 ∷ 0 ∷ []) $ fjoin ! $ feq_i ! (List Val) (taken_val start.ptr ∷ [])
+      (taken_val start.ptr ∷ []) refl $ fjoin ! $
+      fpack ! (Valss (Start E ∷ Cells E Z ∷ [])) (within (Declared.shape (tuple_type (Start E ∷ Cells E Z ∷ []))) (start, (cells, tt))
+      (taken_val start.ptr ∷ [])) (start_val start.ptr ∷ [], (mark_val ∷ [], tt)) $ done !

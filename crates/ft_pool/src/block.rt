@@ -65,7 +65,8 @@ impl<T, A: Allocator> Cells<T, A> {
     /// A block with room for `room` values.
     pub(crate) fn take(alloc: &A, room: usize) -> Result<(Start<T>, Cells<T, A>), AllocError>
         requires { FitsInBlock T.row room }
-        ensures { IfOk result (λ block. (block.1.at ≡ block.0.ptr) × (block.1.room ≡ room) × (block.1.items ≡ []) × (block.1.heap ≡ alloc.now)) }
+        ensures { IfOk result (λ block. (block.1.at ≡ block.0.ptr) × (block.1.room ≡ room) × (block.1.items ≡ [])
+            × (block.1.heap ≡ alloc.now)) }
     {
         match alloc.allocate(room * size_of::<T>(), align_of::<T>()) {
             Ok(block) => {
@@ -91,7 +92,8 @@ impl<T, A: Allocator> Cells<T, A> {
     /// Writes a value over one that is there, or into the first free place.
     pub(crate) fn put(&mut self, start: Start<T>, place: usize, item: T)
         requires { (start.ptr ≡ self.old.at) × (place ≤ length self.old.items) × (place < self.old.room) }
-        ensures { (self.new.at ≡ self.old.at) × (self.new.room ≡ self.old.room) × (self.new.items ≡ put_at self.old.items place item) × (self.new.heap ≡ self.old.heap) }
+        ensures { (self.new.at ≡ self.old.at) × (self.new.room ≡ self.old.room) × (self.new.items ≡ put_at self.old.items place item)
+            × (self.new.heap ≡ self.old.heap) }
     {
         unsafe { start.ptr.add(place).write(item) }
     }

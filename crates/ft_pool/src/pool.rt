@@ -28,7 +28,8 @@ impl<T> Model for Pool<T> {
 
     ghost view = { λ pool. region (take pool.len pool.cells.items) (pool.room - pool.len) };
 
-    ghost invariant = { λ pool. (pool.start.ptr ≡ pool.cells.at) × (pool.room ≡ pool.cells.room) × (pool.alloc ≡ pool.cells.heap) × (pool.len ≤ pool.room) × (pool.len ≤ length pool.cells.items) };
+    ghost invariant = { λ pool. (pool.start.ptr ≡ pool.cells.at) × (pool.room ≡ pool.cells.room) × (pool.alloc ≡ pool.cells.heap)
+        × (pool.len ≤ pool.room) × (pool.len ≤ length pool.cells.items) };
 }
 
 impl<T: Copy> Pool<T> {

@@ -1,5 +1,6 @@
 -- The counts of names after one of them changed.
-use Rattle.std.proofs.Common.{◌≡◌, ◌≢◌, ◌∙◌, sym, ap, refl, subst, inl, inr, nat_lt, ℕ, zero, suc, ◌<◌, ◌≤◌, true, false, cond, List, [], ◌∷◌, map, set, length, take, Some, None, slice_get, slice_index_or, arith}
+use Rattle.std.proofs.Common.{◌≡◌, ◌≢◌, ◌∙◌, sym, ap, refl, subst, inl, inr, nat_lt, ℕ, zero, suc, ◌<◌, ◌≤◌, true, false, cond, List, []}
+use Rattle.std.proofs.Common.{◌∷◌, map, set, length, take, Some, None, slice_get, slice_index_or, arith}
 use Rattle.std.specs.Str.{bytes_eq}
 use Rattle.std.specs.List.{Contains, find, position, position_or_len}
 use Rattle.std.proofs.lemmas.Bool.{cases_Bool}
@@ -36,7 +37,8 @@ module _ (es : List Entry) (name : List ℕ) (at : ℕ) (old new : Entry) (place
   seen = find_at (is_of name) es ∙ ap (slice_get es) first ∙ here
 
   pub after : find (is_of name) (set es at new) ≡ Some new
-  after = find-set (is_of name) es at new (sym first) (position-Some (is_of name) es at old place).0 (ap (λ n. bytes_eq n name) same ∙ named)
+  after = find-set (is_of name) es at new (sym first) (position-Some (is_of name) es at old place).0
+      (ap (λ n. bytes_eq n name) same ∙ named)
 
   -- an entry of another name is another entry
   pub others : (other : List ℕ) → other ≢ name → find (is_of other) (set es at new) ≡ find (is_of other) es

@@ -1,5 +1,6 @@
 -- What a fetch has read after some turns.
-use Rattle.std.proofs.Common.{◌≡◌, ◌≢◌, ◌∙◌, sym, ap, subst, inl, inr, nat_lt, false, ℕ, ◌+◌, ◌<◌, ◌≤◌, List, ◌∷◌, ◌++◌, length, take, Option, Some, Ok, arith, length-append, length-take-le, append-nil}
+use Rattle.std.proofs.Common.{◌≡◌, ◌≢◌, ◌∙◌, sym, ap, subst, inl, inr, nat_lt, false, ℕ, ◌+◌, ◌<◌, ◌≤◌, List, ◌∷◌, ◌++◌, length, take}
+use Rattle.std.proofs.Common.{Option, Some, Ok, arith, length-append, length-take-le, append-nil}
 use Rattle.std.proofs.Math.Seq.{take-add, take-length}
 use Rattle.ft_port.specs.Fetching.{IsFile}
 use Rattle.ft_port.specs.Reads.{Read, given, joined, read_of, HasEnded}
@@ -14,7 +15,8 @@ pub record SoFar (content : Option (List ℕ)) (reads : List Read) (limit : ℕ)
   pub less : length text ≤ length (given reads)
 
 -- a read at the end of the front takes the place of the rest
-joins : (known text bytes : List ℕ) → take (length text) known ≡ text → length text ≤ length known → joined known (length text) (Some bytes) ≡ text ++ bytes
+joins : (known text bytes : List ℕ) → take (length text) known ≡ text → length text ≤ length known → joined known (length text) (Some bytes)
+    ≡ text ++ bytes
 joins known text bytes front less =
     let at : nat_lt (length known) (length text) ≡ false = grind arith in
     rw at (λ i. front i ++ bytes)
@@ -26,11 +28,13 @@ pub next : (E : Type 0) (reads now : List Read) (text into : List ℕ) (place n 
 next E reads now text into place n at front less is =
     ap given is ∙ ap (λ p. joined (given reads) p (Some (take n into))) at ∙ joins (given reads) text (take n into) front less
 
-module _ {E : Type 0} (content told_now : List ℕ → Option (List ℕ)) (reads now : List Read) (name : List ℕ) (limit place n : ℕ) (text into : List ℕ)
+module _ {E : Type 0} (content told_now : List ℕ → Option (List ℕ)) (reads now : List Read) (name : List ℕ) (limit place n : ℕ)
+    (text into : List ℕ)
     (same : told_now ≡ content) (at : place ≡ length text) (so_far : SoFar (content name) reads limit text)
     (read : ReadsFrom {E = E} (told_now name) place (Ok n) into) (is : now ≡ read_of {E = E} place (Ok n) into ∷ reads) where
   reads_here : ReadsFrom {E = E} (content name) (length text) (Ok n) into
-  reads_here = subst (λ p. ReadsFrom {E = E} (content name) p (Ok n) into) at (subst (λ f. ReadsFrom {E = E} (f name) place (Ok n) into) same read)
+  reads_here = subst (λ p. ReadsFrom {E = E} (content name) p (Ok n) into) at
+      (subst (λ f. ReadsFrom {E = E} (f name) place (Ok n) into) same read)
 
   pub known : given now ≡ text ++ take n into
   known = next E reads now text into place n at so_far.front so_far.less is
@@ -43,7 +47,8 @@ module _ {E : Type 0} (content told_now : List ℕ → Option (List ℕ)) (reads
   more some fits = record {
     short = omega (arith, long, fits);
     inside = λ file e. omega (arith, long, so_far.inside file e, reads_here.inside file e, some);
-    part = λ file e. (λ i. so_far.part file e i ++ reads_here.bytes file e i) ∙ sym (take-add (length text) n file) ∙ ap (λ m. take m file) (sym long);
+    part = λ file e. (λ i. so_far.part file e i ++ reads_here.bytes file e i) ∙ sym (take-add (length text) n file)
+        ∙ ap (λ m. take m file) (sym long);
     front = ap (take (length (text ++ take n into))) known ∙ take-length (text ++ take n into);
     less = omega (arith, ap length known);
   }

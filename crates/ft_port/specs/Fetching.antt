@@ -26,5 +26,6 @@ pub record HasReadFault (reads : List Read) (faults_before faults_now : ℕ) : T
 -- why a fetch gave no text; want of memory is free, but isn't told of a read that failed
 abbrev pub HasFetchCause : Option (List ℕ) → List Read → (limit faults_before faults_now reach : ℕ) → FetchError → Type 0
 HasFetchCause content reads limit faults_before faults_now reach Failed = HasReadFault reads faults_before faults_now
-HasFetchCause content reads limit faults_before faults_now reach TooLong = IsTooLong content reads limit reach × (faults_now ≡ faults_before)
+HasFetchCause content reads limit faults_before faults_now reach TooLong = IsTooLong content reads limit reach
+    × (faults_now ≡ faults_before)
 HasFetchCause content reads limit faults_before faults_now reach NoMemory = faults_now ≡ faults_before

@@ -1,5 +1,6 @@
 -- What a read of a shelf gives and leaves.
-use Rattle.std.specs.Prelude.{◌≡◌, ◌≢◌, ◌⊎◌, ◌↔◌, ℕ, ◌+◌, ◌-◌, ◌^◌, ◌≤◌, max, min, List, length, take, drop, Option, Some, Result, IfOk, OnErr, if◌then◌else◌, ◌==◌}
+use Rattle.std.specs.Prelude.{◌≡◌, ◌≢◌, ◌⊎◌, ◌↔◌, ℕ, ◌+◌, ◌-◌, ◌^◌, ◌≤◌, max, min, List, length, take, drop, Option, Some, Result, IfOk}
+use Rattle.std.specs.Prelude.{OnErr, if◌then◌else◌, ◌==◌}
 use Rattle.ft_port.specs.Reads.{Read}
 
 -- a read filled the first n bytes; where the file is told these are its bytes from the place on, and none only where none can be
@@ -19,7 +20,8 @@ pub record Reaches {E : Type 0} (before now place : ℕ) (result : Result ℕ E)
   pub failed : OnErr result (now ≡ before)
 
 -- the counts and the reads of every other name stay
-pub record OthersStay (name : List ℕ) (reach_before reach_now faults_before faults_now : List ℕ → ℕ) (reads_before reads_now : List ℕ → List Read) : Type 0 where
+pub record OthersStay (name : List ℕ) (reach_before reach_now faults_before faults_now : List ℕ → ℕ)
+    (reads_before reads_now : List ℕ → List Read) : Type 0 where
   pub reach : (other : List ℕ) → other ≢ name → reach_now other ≡ reach_before other
   pub faults : (other : List ℕ) → other ≢ name → faults_now other ≡ faults_before other
   pub reads : (other : List ℕ) → other ≢ name → reads_now other ≡ reads_before other

@@ -30,7 +30,8 @@ pub fn note_read(
     ensures reach { Reaches (reach_by counts.old name.now) (reach_by counts.new name.now) place given }
     ensures cause { HasCause (faults_by counts.old name.now) (faults_by counts.new name.now) given }
     ensures reads { reads_by counts.new name.now ≡ read_of place given into.now ∷ reads_by counts.old name.now }
-    ensures others { OthersStay name.now (reach_by counts.old) (reach_by counts.new) (faults_by counts.old) (faults_by counts.new) (reads_by counts.old) (reads_by counts.new) }
+    ensures others { OthersStay name.now (reach_by counts.old) (reach_by counts.new) (faults_by counts.old) (faults_by counts.new)
+        (reads_by counts.old) (reads_by counts.new) }
 {
     match place_of(counts, name) {
         Some(at) => counts[at].count_read(place, given, into),

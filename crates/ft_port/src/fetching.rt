@@ -39,11 +39,13 @@ pub fn fetch<S: Shelf>(
 ) -> Result<Text, FetchError>
     requires { Contains (S.names shelf.old) name.now }
     ensures file { IfOk result (IsFile (S.content shelf.old name.now) (S.reads shelf.new name.now) limit) }
-    ensures cause { IfErr result (HasFetchCause (S.content shelf.old name.now) (S.reads shelf.new name.now) limit (S.faults shelf.old name.now) (S.faults shelf.new name.now) (S.reach shelf.new name.now)) }
+    ensures cause { IfErr result (HasFetchCause (S.content shelf.old name.now) (S.reads shelf.new name.now) limit
+        (S.faults shelf.old name.now) (S.faults shelf.new name.now) (S.reach shelf.new name.now)) }
     ensures longer { (file : List ℕ) → S.content shelf.old name.now ≡ Some file → limit < length file → IsErr result }
     ensures faults { OnOk result (S.faults shelf.new name.now ≡ S.faults shelf.old name.now) }
     ensures reach { S.reach shelf.old name.now ≤ S.reach shelf.new name.now }
-    ensures others { OthersStay name.now (S.reach shelf.old) (S.reach shelf.new) (S.faults shelf.old) (S.faults shelf.new) (S.reads shelf.old) (S.reads shelf.new) }
+    ensures others { OthersStay name.now (S.reach shelf.old) (S.reach shelf.new) (S.faults shelf.old) (S.faults shelf.new)
+        (S.reads shelf.old) (S.reads shelf.new) }
     ensures names { S.names shelf.new ≡ S.names shelf.old }
     ensures content { S.content shelf.new ≡ S.content shelf.old }
 {

@@ -124,7 +124,8 @@ fn read_part(
     into: &mut [u8],
 ) -> Result<usize, Failed>
     ensures bytes { ReadsFrom (option_map (λ bytes. bytes.now) content.entry) place result into.new }
-    ensures most { (file : List ℕ) → option_map (λ bytes. bytes.now) content.entry ≡ Some file → IfOk result (λ n. n ≡ min (length into.new) (length file - place)) }
+    ensures most { (file : List ℕ) → option_map (λ bytes. bytes.now) content.entry ≡ Some file
+        → IfOk result (λ n. n ≡ min (length into.new) (length file - place)) }
     ensures fails { IsErr result ↔ (IsTrue listed ⊎ (option_map (λ bytes. bytes.now) content.entry ≡ None)) }
 {
     match content {
@@ -147,11 +148,13 @@ impl Shelf for MemShelf {
     fn read(&mut self, name: &str, place: u64, into: &mut [u8]) -> Result<usize, Failed>
         requires { Contains (names_of self.old.counts) name.now }
         ensures bytes { ReadsFrom (content_in self.old.files name.now) place result into.new }
-        ensures most { (file : List ℕ) → content_in self.old.files name.now ≡ Some file → IfOk result (λ n. n ≡ min (length into.new) (length file - place)) }
+        ensures most { (file : List ℕ) → content_in self.old.files name.now ≡ Some file
+            → IfOk result (λ n. n ≡ min (length into.new) (length file - place)) }
         ensures reach { Reaches (reach_by self.old.counts name.now) (reach_by self.new.counts name.now) place result }
         ensures cause { HasCause (faults_by self.old.counts name.now) (faults_by self.new.counts name.now) result }
         ensures reads { reads_by self.new.counts name.now ≡ read_of place result into.new ∷ reads_by self.old.counts name.now }
-        ensures others { OthersStay name.now (reach_by self.old.counts) (reach_by self.new.counts) (faults_by self.old.counts) (faults_by self.new.counts) (reads_by self.old.counts) (reads_by self.new.counts) }
+        ensures others { OthersStay name.now (reach_by self.old.counts) (reach_by self.new.counts) (faults_by self.old.counts)
+            (faults_by self.new.counts) (reads_by self.old.counts) (reads_by self.new.counts) }
         ensures fails { IsErr result ↔ MustFail self.old name.now }
         ensures calls { self.new.calls ≡ one_more self.old.calls }
         ensures failing { self.new.failing ≡ self.old.failing }

@@ -1,4 +1,5 @@
-ghost use Rattle.std.specs.Prelude.{◌≡◌, ◌↔◌, true, false, min, ◌⊎◌, ◌<◌, IsTrue, IsSome, ◌++◌, ◌+◌, ◌-◌, ◌≤◌, ◌==◌, ℕ, List, [], Option, Some, IfOk, IsErr, length, take, unwrap_or};
+ghost use Rattle.std.specs.Prelude.{◌≡◌, ◌↔◌, true, false, min, ◌⊎◌, ◌<◌, IsTrue, IsSome, ◌++◌, ◌+◌, ◌-◌, ◌≤◌, ◌==◌, ℕ, List, [], Option};
+ghost use Rattle.std.specs.Prelude.{Some, IfOk, IsErr, length, take, unwrap_or};
 ghost use Rattle.std.specs.List.{find};
 ghost use Rattle.std.specs.Option.{option_map};
 ghost use Rattle.ft_port.specs.Causes.{HasCause, one_more};
@@ -114,7 +115,14 @@ impl MemSink {
     /// Adds these bytes, for which there is room.
     fn append(&mut self, bytes: &[u8])
         requires { length bytes.now ≤ self.old.room }
-        ensures { self.new ≡ record { taken = self.old.taken ++ bytes.now; room = self.old.room - length bytes.now; calls = self.old.calls; failing = self.old.failing; faults = self.old.faults } }
+        ensures { self.new ≡ record {
+          taken = self.old.taken ++ bytes.now;
+          room = self.old.room - length bytes.now;
+          calls =
+              self.old.calls;
+          failing = self.old.failing;
+          faults = self.old.faults;
+        } }
     {
         put(&mut self.buffer, self.used, bytes);
         self.used += bytes.len();

@@ -33,7 +33,8 @@ pub trait Shelf {
         ensures reach { Reaches (reach self.old name.now) (reach self.new name.now) place result }
         ensures reads { reads self.new name.now ≡ read_of place result into.new ∷ reads self.old name.now }
         ensures cause { HasCause (faults self.old name.now) (faults self.new name.now) result }
-        ensures others { OthersStay name.now (reach self.old) (reach self.new) (faults self.old) (faults self.new) (reads self.old) (reads self.new) }
+        ensures others { OthersStay name.now (reach self.old) (reach self.new) (faults self.old) (faults self.new) (reads self.old)
+            (reads self.new) }
         ensures names { names self.new ≡ names self.old }
         ensures content { content self.new ≡ content self.old };
 }

@@ -1,5 +1,6 @@
 -- One token of those that are left.
-use Rattle.std.proofs.Common.{◌≡◌, refl, sym, ap, true≢false, ℕ, zero, suc, ◌<◌, arith, Bool, true, false, List, [], ◌∷◌, Option, Some, None, Ok, Err}
+use Rattle.std.proofs.Common.{◌≡◌, refl, sym, ap, true≢false, ℕ, zero, suc, ◌<◌, arith, Bool, true, false, List, [], ◌∷◌, Option, Some}
+use Rattle.std.proofs.Common.{None, Ok, Err}
 use Rattle.ft_read.specs.meaning.Lexeme.{Lexeme, or_else}
 use Rattle.ft_read.specs.meaning.Limit.{Passes, lexical_passes, opening, lexical_pass, within}
 use Rattle.ft_read.specs.parsers.Cursor.{ReadsAs, ReadsFirst, advanced, head, read_first}
@@ -26,12 +27,14 @@ module _ {A : Type 0} (passes : Passes) where
   taken read a l at [] e f g = cc e
   taken read a l at (k ∷ rest) e f g = let same : k ≡ l = cc e in rw (same, f, g) refl
 
-  pub passed : (read : Option A) (a : A) (pass : Pass) (l : Lexeme) (at : ℕ) (rest : List Lexeme) → head rest ≡ Some l → read ≡ Some a → passes at l ≡ Some pass
+  pub passed : (read : Option A) (a : A) (pass : Pass) (l : Lexeme) (at : ℕ) (rest : List Lexeme) → head rest ≡ Some l → read ≡ Some a
+      → passes at l ≡ Some pass
       → token_of (λ _. read) passes at rest ≡ (Err (Limit pass), state at rest)
   passed read a pass l at [] e f g = cc e
   passed read a pass l at (k ∷ rest) e f g = let same : k ≡ l = cc e in rw (same, f, g) refl
 
-  pub read_one : (read : Lexeme → Option A) (at : ℕ) (rest : List Lexeme) → token_of (λ _. read_first read rest) passes at rest ≡ token_of read passes at rest
+  pub read_one : (read : Lexeme → Option A) (at : ℕ) (rest : List Lexeme) → token_of (λ _. read_first read rest) passes at rest
+      ≡ token_of read passes at rest
   read_one read at [] = refl
   read_one read at (l ∷ rest) = refl
 
@@ -46,7 +49,8 @@ can_first read (l ∷ rest) = refl
 pub ruleset tests = (can_first)
 
 -- where each token that passes a limit by itself passes one
-module _ {A : Type 0} (read : Lexeme → Option A) (passes : Passes) (lexical : (at : ℕ) (l : Lexeme) (p : Pass) → lexical_pass l ≡ Some p → passes at l ≡ Some p) where
+module _ {A : Type 0} (read : Lexeme → Option A) (passes : Passes) (lexical : (at : ℕ) (l : Lexeme) (p : Pass) → lexical_pass l ≡ Some p
+    → passes at l ≡ Some p) where
   same-token : (found : Option A) (at : ℕ) (l : Lexeme) (rest : List Lexeme) (one : Option Pass) → lexical_pass l ≡ one
       → ReadsAs read l found
       → token_as found (passes at l) at l rest ≡ token_as (read l) (passes at l) at l rest
@@ -58,7 +62,8 @@ module _ {A : Type 0} (read : Lexeme → Option A) (passes : Passes) (lexical : 
     both None (Some b) f = cc f
     both (Some a) None f = cc f
 
-  same-first : (found : Option A) (at : ℕ) (rest : List Lexeme) → ReadsFirst read rest found → token_of (λ _. found) passes at rest ≡ token_of read passes at rest
+  same-first : (found : Option A) (at : ℕ) (rest : List Lexeme) → ReadsFirst read rest found → token_of (λ _. found) passes at rest
+      ≡ token_of read passes at rest
   same-first found at [] h = refl
   same-first found at (l ∷ rest) h = same-token found at l rest (lexical_pass l) refl h
 

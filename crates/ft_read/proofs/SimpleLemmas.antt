@@ -14,7 +14,8 @@ module _ {A B : Type 0} (read : Lexeme → Option A) (f : A → B) (other : Lexe
   abbrev choice : Lexeme → Option B
   choice l = or_else (elim (read l) [ None ↦ None | Some a ↦ Some (f a) ]) (other l)
 
-  some-is : (found : Option A) (o : Option B) (a : A) → is_some (Some a) ≡ is_some found → is_some (or_else (elim found [ None ↦ None | Some b ↦ Some (f b) ]) o) ≡ true
+  some-is : (found : Option A) (o : Option B) (a : A) → is_some (Some a) ≡ is_some found
+      → is_some (or_else (elim found [ None ↦ None | Some b ↦ Some (f b) ]) o) ≡ true
   some-is None o a e = absurd (true≢false e)
   some-is (Some b) o a e = refl
 
@@ -32,12 +33,16 @@ pub simple_number : (l : Lexeme) (n : Number) → ReadsAs as_number l (Some n) �
 simple_number l n h = first-is as_number (λ (n : Number). expr.Num n.value n.place)
     (λ l. or_else (elim (as_name l) [ None ↦ None | Some word ↦ Some (expr.Name word.text word.place) ]) (as_truth_of l)) l n h
 
-pub simple_name : (l : Lexeme) (w : Word) → ReadsAs as_number l None → Some w ≡ as_name l → ReadsAs as_simple l (Some (expr.Name w.text w.place))
+pub simple_name : (l : Lexeme) (w : Word) → ReadsAs as_number l None → Some w ≡ as_name l
+    → ReadsAs as_simple l (Some (expr.Name w.text w.place))
 simple_name l w h e = other-is as_number (λ (n : Number). expr.Num n.value n.place)
-    (λ l. or_else (elim (as_name l) [ None ↦ None | Some word ↦ Some (expr.Name word.text word.place) ]) (as_truth_of l)) l (Some (expr.Name w.text w.place)) h (rw (sym e) refl)
+    (λ l. or_else (elim (as_name l) [ None ↦ None | Some word ↦ Some (expr.Name word.text word.place) ]) (as_truth_of l)) l
+    (Some (expr.Name w.text w.place)) h (rw (sym e) refl)
 
-pub simple_truth : (l : Lexeme) (found : Option Expr) → ReadsAs as_number l None → None ≡ as_name l → found ≡ as_truth_of l → ReadsAs as_simple l found
+pub simple_truth : (l : Lexeme) (found : Option Expr) → ReadsAs as_number l None → None ≡ as_name l → found ≡ as_truth_of l
+    → ReadsAs as_simple l found
 simple_truth l found h e f = other-is as_number (λ (n : Number). expr.Num n.value n.place)
-    (λ l. or_else (elim (as_name l) [ None ↦ None | Some word ↦ Some (expr.Name word.text word.place) ]) (as_truth_of l)) l found h (rw (sym e) f)
+    (λ l. or_else (elim (as_name l) [ None ↦ None | Some word ↦ Some (expr.Name word.text word.place) ]) (as_truth_of l)) l found h
+    (rw (sym e) f)
 
 pub ruleset simples = (simple_number, simple_name, simple_truth)

@@ -3,7 +3,8 @@ ghost use Rattle.ft_tree.specs.declared.item.Plain.TheVariants as plain;
 ghost use Rattle.ft_read.specs.parsers.Cursor.{ReadsAs, ReadsFirst, read_first};
 ghost use Rattle.ft_read.specs.meaning.Choices.{as_plain, as_truth};
 ghost use Rattle.ft_read.specs.meaning.Lexeme.{as_sign};
-ghost use Rattle.ft_read.specs.parsers.Parts.{bound_by, kind_of_name_by, kind_part_by, minus_bound_by, number_bound_by, plain_bound_by, range_after_by, upper_by, value_by};
+ghost use Rattle.ft_read.specs.parsers.Parts.{bound_by, kind_of_name_by, kind_part_by, minus_bound_by, number_bound_by, plain_bound_by};
+ghost use Rattle.ft_read.specs.parsers.Parts.{range_after_by, upper_by, value_by};
 ghost use Rattle.ft_read.specs.parsers.Combinators.{Gives, begins, can, alternative_by, read_token};
 
 use crate::cursor::Cursor;

@@ -1,5 +1,6 @@
 -- The atoms of a settled formula: in lowest terms, the first factor positive, and no two the same.
-use Rattle.std.proofs.Common.{◌≡◌, ◌∙◌, inl, inr, sym, ap, subst, refl, ℕ, zero, suc, ◌*◌, ◌<◌, ◌≤◌, ℤ, pos, negsuc, neg_ℤ, Bool, true, false, not, cond, map, List, [], ◌∷◌, ◌++◌, length, All, arith}
+use Rattle.std.proofs.Common.{◌≡◌, ◌∙◌, inl, inr, sym, ap, subst, refl, ℕ, zero, suc, ◌*◌, ◌<◌, ◌≤◌, ℤ, pos, negsuc, neg_ℤ, Bool, true}
+use Rattle.std.proofs.Common.{false, not, cond, map, List, [], ◌∷◌, ◌++◌, length, All, arith}
 use Rattle.std.specs.Prelude.{unsigned_abs, int_lt}
 use Rattle.std.specs.Cmp.{IsEquivalence}
 use Rattle.std.specs.Int.{◌∣◌}
@@ -18,8 +19,10 @@ use Rattle.ft_settle.specs.declared.raw.Raw.{Raw}
 use Rattle.ft_settle.specs.meaning.Canonical.{AreCanonical, IsCanonical, canonical, divides_all, gcd_of, greatest_divisor, is_positive}
 use Rattle.ft_settle.specs.meaning.Settled.{atoms_in, forms_of, same_form, with_form, with_forms}
 use Rattle.ft_settle.specs.settling.Factors.{all_begin_well, begins_well, quotient_of}
-use Rattle.ft_settle.proofs.CanonicalLemmas.{DividesEach, abs-some, exact, gcd-divides, no-zero, not-zero, of-test, quotient-some, quotients-are, signed-some, test-of}
-use Rattle.ft_settle.proofs.RawLemmas.{WithRaw, bare_raw, InductiveRaw, raw_induction, begins-Le, begins-Not, begins-And, begins-Or, forms-Le, forms-Not, forms-And, forms-Or}
+use Rattle.ft_settle.proofs.CanonicalLemmas.{DividesEach, abs-some, exact, gcd-divides, no-zero, not-zero, of-test, quotient-some}
+use Rattle.ft_settle.proofs.CanonicalLemmas.{quotients-are, signed-some, test-of}
+use Rattle.ft_settle.proofs.RawLemmas.{WithRaw, bare_raw, InductiveRaw, raw_induction, begins-Le, begins-Not, begins-And, begins-Or}
+use Rattle.ft_settle.proofs.RawLemmas.{forms-Le, forms-Not, forms-And, forms-Or}
 use Rattle.ft_settle.proofs.SettleLemmas.{form-itself, same-forms}
 
 -- no greater number up to n divides each factor
@@ -30,7 +33,8 @@ greatest-most (suc n) d fs le so = elim (cases_Bool (divides_all (suc n) fs)) [
   | inl here ↦ subst (λ (b : Bool). d ≤ cond b (suc n) (greatest_divisor n fs)) (sym here) le
   | inr isnt ↦ elim (cases_eq d (suc n)) [
     | inl same ↦ cc (sym isnt ∙ ap (λ k. divides_all k fs) (sym same) ∙ so)
-    | inr other ↦ subst (λ (b : Bool). d ≤ cond b (suc n) (greatest_divisor n fs)) (sym isnt) (greatest-most n d fs (grind (arith, le, other)) so)
+    | inr other ↦ subst (λ (b : Bool). d ≤ cond b (suc n) (greatest_divisor n fs)) (sym isnt)
+        (greatest-most n d fs (grind (arith, le, other)) so)
   ]
 ]
 
@@ -83,16 +87,19 @@ module _ (quotient : QuotientIsExact) where
         some = let long = length-map (f ∷ fs) (quotient_of b g) in omega (arith, long, some);
         lowest = λ d so.
             let parts = of-test d (map (quotient_of b g) (f ∷ fs)) so in
-            let first = abs-some (quotient_of b g f).1 (signed-some b (floor_of f.1 (pos g)) (quotient-some quotient f.1 g above each.0 nonzero)) in
+            let first = abs-some (quotient_of b g f).1 (signed-some b (floor_of f.1 (pos g))
+            (quotient-some quotient f.1 g above each.0 nonzero)) in
             let times = times-each b g d (f ∷ fs) above each parts in
             let low : g * d ≤ unsigned_abs f.1 = le_of_dvd (abs-some f.1 nonzero) times.0 in
-            one-divisor g d above (no-zero d (unsigned_abs (quotient_of b g f).1) parts.0 first) (greatest-most (unsigned_abs f.1) (g * d) (f ∷ fs) low (test-of (g * d) (f ∷ fs) times));
+            one-divisor g d above (no-zero d (unsigned_abs (quotient_of b g f).1) parts.0 first)
+            (greatest-most (unsigned_abs f.1) (g * d) (f ∷ fs) low (test-of (g * d) (f ∷ fs) times));
         positive = ap not (not-under f.1 g);
       }
 
   is-canonical : (l : LinView) → 0 < length l.factors → begins_well l.factors ≡ true → IsCanonical (canonical l)
   is-canonical l some well =
-      subst (λ (m : LinView). IsCanonical m) (sym (quotients-are (is_positive l.factors) (gcd_of l.factors) l)) (quotients-lowest l.factors some well)
+      subst (λ (m : LinView). IsCanonical m) (sym (quotients-are (is_positive l.factors) (gcd_of l.factors) l))
+      (quotients-lowest l.factors some well)
 
   abbrev Gives : Raw → Type 0
   Gives raw = all_begin_well raw ≡ true → All IsCanonical (forms_of raw)
@@ -113,8 +120,10 @@ module _ (quotient : QuotientIsExact) where
   gives = record {
     form = λ l well. subst (All IsCanonical) (sym (forms-Le l)) (of-form l l.factors refl (sym (begins-Le l) ∙ well));
     negated = λ inner h well. subst (All IsCanonical) (sym (forms-Not inner)) (h (sym (begins-Not inner) ∙ well));
-    all = λ parts well. subst (All IsCanonical) (sym (forms-And (bare_raw parts))) (of-parts parts (sym (begins-And (bare_raw parts)) ∙ well));
-    any = λ parts well. subst (All IsCanonical) (sym (forms-Or (bare_raw parts))) (of-parts parts (sym (begins-Or (bare_raw parts)) ∙ well));
+    all = λ parts well. subst (All IsCanonical) (sym (forms-And (bare_raw parts)))
+        (of-parts parts (sym (begins-And (bare_raw parts)) ∙ well));
+    any = λ parts well. subst (All IsCanonical) (sym (forms-Or (bare_raw parts)))
+        (of-parts parts (sym (begins-Or (bare_raw parts)) ∙ well));
   }
 
   pub forms-canonical : (raw : Raw) → all_begin_well raw ≡ true → All IsCanonical (forms_of raw)
@@ -147,7 +156,8 @@ pub distinct-with : (forms ls : List LinView) → IsDistinct same_form forms →
 distinct-with forms [] old = old
 distinct-with forms (l ∷ ls) old = distinct-with (with_form forms l) ls (elim (cases_Bool (list_any (same_form l) forms)) [
   | inl so ↦ subst (λ (b : Bool). IsDistinct same_form (cond b forms (forms ++ l ∷ []))) (sym so) old
-  | inr isnt ↦ subst (λ (b : Bool). IsDistinct same_form (cond b forms (forms ++ l ∷ []))) (sym isnt) (IsDistinct-push same-equivalence forms l old isnt)
+  | inr isnt ↦ subst (λ (b : Bool). IsDistinct same_form (cond b forms (forms ++ l ∷ []))) (sym isnt)
+      (IsDistinct-push same-equivalence forms l old isnt)
 ])
 
 pub none-distinct : IsDistinct same_form []

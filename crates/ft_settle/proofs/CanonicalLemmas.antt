@@ -1,5 +1,7 @@
 -- The greatest common divisor of factors, and what division by it keeps.
-use Rattle.std.proofs.Common.{◌≡◌, ◌≢◌, ◌∙◌, inl, inr, sym, ap, subst, refl, ℕ, zero, suc, ◌+◌, ◌*◌, ◌/◌, ◌%◌, ◌<◌, ◌≤◌, ◌↔◌, ℤ, pos, negsuc, neg_ℤ, ◌+ℤ◌, ◌-ℤ◌, ◌*ℤ◌, Bool, true, false, not, ◌&&◌, cond, map, List, [], ◌∷◌, ◌++◌, length, take, arith}
+use Rattle.std.proofs.Common.{◌≡◌, ◌≢◌, ◌∙◌, inl, inr, sym, ap, subst, refl, ℕ, zero, suc, ◌+◌, ◌*◌, ◌/◌, ◌%◌, ◌<◌, ◌≤◌, ◌↔◌, ℤ, pos}
+use Rattle.std.proofs.Common.{negsuc, neg_ℤ, ◌+ℤ◌, ◌-ℤ◌, ◌*ℤ◌, Bool, true, false, not, ◌&&◌, cond, map, List, [], ◌∷◌, ◌++◌, length, take}
+use Rattle.std.proofs.Common.{arith}
 use Rattle.std.specs.Prelude.{nat_eq, unsigned_abs, slice_index_or, int_le, if◌then◌else◌}
 use Rattle.std.specs.Ordering.{int_eq}
 use Rattle.std.specs.Int.{IsGcd, ◌∣◌}
@@ -35,7 +37,8 @@ IsDivisor g fs = (d : ℕ) → (d ∣ g) ↔ DividesEach d fs
 pub divisor-none : IsDivisor 0 []
 divisor-none d = (λ h. tt, λ h. dvd-zero d)
 
-pub divisor-more : (g next : ℕ) (fs : List Factor) (i : ℕ) (e : Factor) (n : ℕ) → i < length fs → n ≡ unsigned_abs (slice_index_or fs i e).1 → IsGcd g n next
+pub divisor-more : (g next : ℕ) (fs : List Factor) (i : ℕ) (e : Factor) (n : ℕ) → i < length fs → n ≡ unsigned_abs (slice_index_or fs i e).1
+    → IsGcd g n next
     → IsDivisor g (take i fs) → IsDivisor next (take (i + 1) fs)
 divisor-more g next fs i e n within is gcd before d =
     let (to, from) = each-push d (take i fs) (slice_index_or fs i e) in
@@ -59,7 +62,8 @@ of-test d [] e = tt
 of-test d (f ∷ fs) e = let (here, rest) = and_parts (nat_eq (unsigned_abs f.1 % d) 0) (divides_all d fs) e in
     (dvd_of_mod-eq-zero d (eqb-true (unsigned_abs f.1 % d) 0 here), of-test d fs rest)
 
-greatest-is : (n g : ℕ) (fs : List Factor) → g ≤ n → 0 < g → divides_all g fs ≡ true → ((d : ℕ) → g < d → divides_all d fs ≡ true → ⊥) → greatest_divisor n fs ≡ g
+greatest-is : (n g : ℕ) (fs : List Factor) → g ≤ n → 0 < g → divides_all g fs ≡ true → ((d : ℕ) → g < d → divides_all d fs ≡ true → ⊥)
+    → greatest_divisor n fs ≡ g
 unfolding greatest_divisor
 greatest-is zero g fs le above so none = absurd (omega (arith, le, above))
 greatest-is (suc n) g fs le above so none = elim (cases_eq g (suc n)) [
@@ -103,10 +107,13 @@ one-divides (f ∷ fs) = ap (λ b. b && divides_all 1 fs) (no-rest (unsigned_abs
 greatest-divides : (n : ℕ) (fs : List Factor) → 0 < n → (divides_all (greatest_divisor n fs) fs ≡ true) × (0 < greatest_divisor n fs)
 unfolding greatest_divisor
 greatest-divides zero fs h = absurd (omega (arith, h))
-greatest-divides (suc zero) fs h = subst (λ (k : ℕ). (divides_all k fs ≡ true) × (0 < k)) (sym (ap (λ b. cond b 1 0) (one-divides fs))) (one-divides fs, omega arith)
+greatest-divides (suc zero) fs h = subst (λ (k : ℕ). (divides_all k fs ≡ true) × (0 < k)) (sym (ap (λ b. cond b 1 0) (one-divides fs)))
+    (one-divides fs, omega arith)
 greatest-divides (suc (suc n)) fs h = elim (cases_Bool (divides_all (suc (suc n)) fs)) [
-  | inl so ↦ subst (λ (k : ℕ). (divides_all k fs ≡ true) × (0 < k)) (sym (ap (λ b. cond b (suc (suc n)) (greatest_divisor (suc n) fs)) so)) (so, omega arith)
-  | inr isnt ↦ subst (λ (k : ℕ). (divides_all k fs ≡ true) × (0 < k)) (sym (ap (λ b. cond b (suc (suc n)) (greatest_divisor (suc n) fs)) isnt)) (greatest-divides (suc n) fs (omega arith))
+  | inl so ↦ subst (λ (k : ℕ). (divides_all k fs ≡ true) × (0 < k)) (sym (ap (λ b. cond b (suc (suc n)) (greatest_divisor (suc n) fs)) so))
+      (so, omega arith)
+  | inr isnt ↦ subst (λ (k : ℕ). (divides_all k fs ≡ true) × (0 < k)) (sym
+      (ap (λ b. cond b (suc (suc n)) (greatest_divisor (suc n) fs)) isnt)) (greatest-divides (suc n) fs (omega arith))
 ]
 
 pub begins-well : (fs : List Factor) (from : ℕ) → AreRising from fs → begins_well fs ≡ true
@@ -121,7 +128,8 @@ not-zero z e same = cc (sym e ∙ ap (λ (y : ℤ). not (int_eq y (pos 0))) same
 
 pub gcd-divides : (fs : List Factor) → 0 < length fs → begins_well fs ≡ true → DividesEach (gcd_of fs) fs × (0 < gcd_of fs)
 gcd-divides [] some well = absurd (omega (arith, some))
-gcd-divides (f ∷ fs) some well = let (each, above) = greatest-divides (unsigned_abs f.1) (f ∷ fs) (abs-some f.1 (not-zero f.1 well)) in (of-test (gcd_of (f ∷ fs)) (f ∷ fs) each, above)
+gcd-divides (f ∷ fs) some well = let (each, above) = greatest-divides (unsigned_abs f.1) (f ∷ fs) (abs-some f.1 (not-zero f.1 well)) in
+    (of-test (gcd_of (f ∷ fs)) (f ∷ fs) each, above)
 
 -- a number that g divides is g times its quotient
 module _ (quotient : QuotientIsExact) where
@@ -158,38 +166,52 @@ signed-small true q h = h
 signed-small false q h = omega (arith, ints, h)
 
 -- the canonical form's factors rise as the form's do
-pub quotients-rise : (quotient : QuotientIsExact) (b : Bool) (g from : ℕ) (fs : List Factor) → 0 < g → DividesEach g fs → AreRising from fs → AreRising from (map (quotient_of b g) fs)
+pub quotients-rise : (quotient : QuotientIsExact) (b : Bool) (g from : ℕ) (fs : List Factor) → 0 < g → DividesEach g fs → AreRising from fs
+    → AreRising from (map (quotient_of b g) fs)
 quotients-rise quotient b g from [] h each rising = tt
 quotients-rise quotient b g from (f ∷ fs) h each rising = (
   rising.0,
   signed-some b (floor_of f.1 (pos g)) (quotient-some quotient f.1 g h each.0 rising.1),
-  signed-small b (floor_of f.1 (pos g)) (let s = quotient-small f.1 g h in let t : unsigned_abs f.1 ≤ value_most = rising.2 in omega (arith, s, t)),
+  signed-small b (floor_of f.1 (pos g)) (let s = quotient-small f.1 g h in let t : unsigned_abs f.1 ≤ value_most = rising.2 in
+      omega (arith, s, t)),
   quotients-rise quotient b g (f.0 + 1) fs h each.1 rising.3,
 )
 
 pub quotients-are : (b : Bool) (g : ℕ) (l : LinView)
-    → literal_form b (divided g l) ≡ record { factors = map (quotient_of b g) l.factors; constant = cond b (neg_ℤ (floor_of (neg_ℤ l.constant) (pos g))) (pos 1 -ℤ neg_ℤ (floor_of (neg_ℤ l.constant) (pos g))) }
+    → literal_form b (divided g l) ≡ record {
+      factors = map (quotient_of b g) l.factors;
+      constant =
+          cond b (neg_ℤ (floor_of (neg_ℤ l.constant) (pos g))) (pos 1 -ℤ neg_ℤ (floor_of (neg_ℤ l.constant) (pos g)));
+    }
 quotients-are true g l = refl
-quotients-are false g l = λ i. record { factors = map-map (λ (f : Factor). (f.0, neg_ℤ f.1)) (λ (f : Factor). (f.0, floor_of f.1 (pos g))) l.factors i; constant = pos 1 -ℤ neg_ℤ (floor_of (neg_ℤ l.constant) (pos g)) }
+quotients-are false g l = λ i. record {
+  factors = map-map (λ (f : Factor). (f.0, neg_ℤ f.1)) (λ (f : Factor). (f.0, floor_of f.1 (pos g)))
+      l.factors i;
+  constant = pos 1 -ℤ neg_ℤ (floor_of (neg_ℤ l.constant) (pos g));
+}
 
 -- the factors are g times those of the divided form
-each-exact : (quotient : QuotientIsExact) (g : ℕ) (fs : List Factor) → 0 < g → DividesEach g fs → fs ≡ scaled g (map (λ f. (f.0, floor_of f.1 (pos g))) fs)
+each-exact : (quotient : QuotientIsExact) (g : ℕ) (fs : List Factor) → 0 < g → DividesEach g fs → fs
+    ≡ scaled g (map (λ f. (f.0, floor_of f.1 (pos g))) fs)
 each-exact quotient g [] h each = refl
 each-exact quotient g (f ∷ fs) h each = λ i. (f.0, exact quotient f.1 g h each.0 i) ∷ each-exact quotient g fs h each.1 i
 
 module _ (literal : LiteralsHold) (divide : DividedHolds) (quotient : QuotientIsExact) (x : ℕ → ℤ) where
-  divided-same : (g : ℕ) (l : LinView) → 0 < g → DividesEach g l.factors → int_le (form_at x l) (pos 0) ≡ int_le (form_at x (divided g l)) (pos 0)
+  divided-same : (g : ℕ) (l : LinView) → 0 < g → DividesEach g l.factors → int_le (form_at x l) (pos 0)
+      ≡ int_le (form_at x (divided g l)) (pos 0)
   divided-same g l h each =
       ap (λ (fs : List Factor). int_le (sum_at x fs +ℤ l.constant) (pos 0)) (each-exact quotient g l.factors h each)
       ∙ divide x g (map (λ f. (f.0, floor_of f.1 (pos g))) l.factors) l.constant h
 
   -- a form's atom is its canonical atom, or the negation of that
   pub canonical-same : (l : LinView) → 0 < length l.factors → begins_well l.factors ≡ true
-      → int_le (form_at x l) (pos 0) ≡ (if is_positive l.factors then int_le (form_at x (canonical l)) (pos 0) else not (int_le (form_at x (canonical l)) (pos 0)))
+      → int_le (form_at x l) (pos 0) ≡ (if is_positive l.factors then int_le (form_at x (canonical l)) (pos 0) else not
+      (int_le (form_at x (canonical l)) (pos 0)))
   canonical-same l some well =
       let (each, above) = gcd-divides l.factors some well in
       divided-same (gcd_of l.factors) l above each
-      ∙ back (is_positive l.factors) (int_le (form_at x (divided (gcd_of l.factors) l)) (pos 0)) (int_le (form_at x (canonical l)) (pos 0)) (literal x (is_positive l.factors) (divided (gcd_of l.factors) l))
+      ∙ back (is_positive l.factors) (int_le (form_at x (divided (gcd_of l.factors) l)) (pos 0)) (int_le (form_at x (canonical l)) (pos 0))
+      (literal x (is_positive l.factors) (divided (gcd_of l.factors) l))
     where
       twice : (b : Bool) → b ≡ not (not b)
       twice true = refl

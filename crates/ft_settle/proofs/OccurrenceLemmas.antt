@@ -1,5 +1,6 @@
 -- The atoms of a settled formula stand in the order of their first occurrences.
-use Rattle.std.proofs.Common.{◌≡◌, ◌∙◌, ◌⊎◌, inl, inr, sym, ap, subst, refl, ℕ, zero, suc, ◌<◌, Bool, true, cond, List, [], ◌∷◌, ◌++◌, length, Some, slice_get, append-nil, append_assoc, arith}
+use Rattle.std.proofs.Common.{◌≡◌, ◌∙◌, ◌⊎◌, inl, inr, sym, ap, subst, refl, ℕ, zero, suc, ◌<◌, Bool, true, cond, List, [], ◌∷◌, ◌++◌}
+use Rattle.std.proofs.Common.{length, Some, slice_get, append-nil, append_assoc, arith}
 use Rattle.std.specs.List.{list_any}
 use Rattle.std.proofs.lemmas.Bool.{cases_Bool}
 use Rattle.std.proofs.lemmas.List.{length-append}
@@ -69,10 +70,18 @@ module _ (done atoms : List LinView) (y : LinView) (h : AreFirstOccurrences done
         first = λ n l e. elim (of-push atoms y n l e) [
           | inl here ↦
               let (k, at, front) = h.first n l here in
-              let within = slice_get_within done k l at in
-              (k, on-left done y k l at, λ j m below got. let (i, less, is) = front j m below (before-end done y j m (omega (arith, below, within)) got) in kept n i m is less)
-          | inr (last, same) ↦
-              (length done, at-end done y ∙ ap Some same, λ j m below got. let (i, less, is) = h.all j m (before-end done y j m below got) in kept n i m is (omega (arith, less, last)))
+              let within = slice_get_within done k l at in (
+                k,
+                on-left done y k l at,
+                λ j m below got. let (i, less, is) =
+                    front j m below (before-end done y j m (omega (arith, below, within)) got) in kept n i m is less,
+              )
+          | inr (last, same) ↦ (
+            length done,
+            at-end done y ∙ ap Some same,
+            λ j m below got. let (i, less, is) =
+                h.all j m (before-end done y j m below got) in kept n i m is (omega (arith, less, last)),
+          )
         ];
       }
 

@@ -1,5 +1,6 @@
 -- The atoms of a settled formula, and its truth.
-use Rattle.std.proofs.Common.{◌≡◌, ◌∙◌, inl, inr, sym, ap, subst, refl, ℕ, ◌+◌, ◌<◌, ℤ, pos, ◌+ℤ◌, Bool, true, false, not, ◌&&◌, ◌||◌, cond, List, [], ◌∷◌, ◌++◌, map, length, take, Some, slice_get, arith}
+use Rattle.std.proofs.Common.{◌≡◌, ◌∙◌, inl, inr, sym, ap, subst, refl, ℕ, ◌+◌, ◌<◌, ℤ, pos, ◌+ℤ◌, Bool, true, false, not, ◌&&◌, ◌||◌, cond}
+use Rattle.std.proofs.Common.{List, [], ◌∷◌, ◌++◌, map, length, take, Some, slice_get, arith}
 use Rattle.std.specs.Prelude.{nat_eq, nat_lt, int_le, int_lt, slice_index_or, find}
 use Rattle.std.specs.Ordering.{int_eq}
 use Rattle.std.specs.Cmp.Lexicographic.{pointwise}
@@ -20,11 +21,14 @@ use Rattle.ft_linear.specs.laws.Forms.{LiteralsHold, DividedHolds, QuotientIsExa
 use Rattle.ft_linear.specs.meaning.Formula.{atoms_below, atom_at, form_truth}
 use Rattle.ft_settle.specs.meaning.Canonical.{canonical, is_positive}
 use Rattle.ft_settle.specs.meaning.Raw.{raw_truth}
-use Rattle.ft_settle.specs.meaning.Settled.{same_factor, same_form, with_form, with_forms, atoms_in, forms_of, place_of, placed, placed_form}
+use Rattle.ft_settle.specs.meaning.Settled.{same_factor, same_form, with_form, with_forms, atoms_in, forms_of, place_of, placed}
+use Rattle.ft_settle.specs.meaning.Settled.{placed_form}
 use Rattle.ft_settle.specs.settling.Factors.{all_begin_well, begins_well}
 use Rattle.ft_linear.specs.laws.Nodes.{list_any-map, truth-At, truth-Not, truth-And, truth-Or, below-At, below-Not, below-And, below-Or}
 use Rattle.ft_settle.proofs.CanonicalLemmas.{canonical-same}
-use Rattle.ft_settle.proofs.RawLemmas.{WithRaw, bare_raw, InductiveRaw, raw_induction, raw-Le, raw-Not, raw-And, raw-Or, begins-Le, begins-Not, begins-And, begins-Or, forms-Le, forms-Not, forms-And, forms-Or, placed-Le, placed-Not, placed-And, placed-Or}
+use Rattle.ft_settle.proofs.RawLemmas.{WithRaw, bare_raw, InductiveRaw, raw_induction, raw-Le, raw-Not, raw-And, raw-Or, begins-Le}
+use Rattle.ft_settle.proofs.RawLemmas.{begins-Not, begins-And, begins-Or, forms-Le, forms-Not, forms-And, forms-Or, placed-Le, placed-Not}
+use Rattle.ft_settle.proofs.RawLemmas.{placed-And, placed-Or}
 use Rattle.std.proofs.Math.Bool.{or-false, or_assoc}
 
 same-int : (a b : ℤ) → int_eq a b ≡ true → a ≡ b
@@ -94,7 +98,8 @@ all-kept q forms (l ∷ ls) e = all-kept q (with_form forms l) ls (kept q forms 
 there : (forms : List LinView) (l : LinView) → list_any (same_form l) (with_form forms l) ≡ true
 there forms l = elim (cases_Bool (list_any (same_form l) forms)) [
   | inl so ↦ ap (λ b. list_any (same_form l) (cond b forms (forms ++ l ∷ []))) so ∙ so
-  | inr isnt ↦ ap (λ b. list_any (same_form l) (cond b forms (forms ++ l ∷ []))) isnt ∙ any-append (same_form l) forms l ∙ ap (λ b. b || same_form l l) isnt ∙ form-itself l
+  | inr isnt ↦ ap (λ b. list_any (same_form l) (cond b forms (forms ++ l ∷ []))) isnt ∙ any-append (same_form l) forms l
+      ∙ ap (λ b. b || same_form l l) isnt ∙ form-itself l
 ]
 
 -- each of these forms is among those
@@ -104,7 +109,8 @@ Has forms ls = list_all (λ l. list_any (same_form l) forms) ls ≡ true
 pub has-all : (forms ls : List LinView) → Has (with_forms forms ls) ls
 has-all forms [] = refl
 has-all forms (l ∷ ls) =
-    ap (λ b. b && list_all (λ m. list_any (same_form m) (with_forms (with_form forms l) ls)) ls) (all-kept (same_form l) (with_form forms l) ls (there forms l))
+    ap (λ b. b && list_all (λ m. list_any (same_form m) (with_forms (with_form forms l) ls)) ls)
+    (all-kept (same_form l) (with_form forms l) ls (there forms l))
     ∙ has-all (with_form forms l) ls
 
 forms-append : (forms xs ys : List LinView) → with_forms forms (xs ++ ys) ≡ with_forms (with_forms forms xs) ys
@@ -112,20 +118,25 @@ forms-append forms [] ys = refl
 forms-append forms (x ∷ xs) ys = forms-append (with_form forms x) xs ys
 
 -- the forms of one part more
-pub forms-more : (forms mid now : List LinView) (parts : List Raw) (i : ℕ) (part : Raw) → i < length parts → part ≡ slice_index_or parts i part
-    → mid ≡ with_forms forms (flat_map forms_of (take i parts)) → now ≡ with_forms mid (forms_of part) → now ≡ with_forms forms (flat_map forms_of (take (i + 1) parts))
+pub forms-more : (forms mid now : List LinView) (parts : List Raw) (i : ℕ) (part : Raw) → i < length parts → part
+    ≡ slice_index_or parts i part
+    → mid ≡ with_forms forms (flat_map forms_of (take i parts)) → now ≡ with_forms mid (forms_of part) → now
+    ≡ with_forms forms (flat_map forms_of (take (i + 1) parts))
 forms-more forms mid now parts i part within is before here =
-    here ∙ ap (λ (l : List LinView). with_forms l (forms_of part)) before ∙ sym (forms-append forms (flat_map forms_of (take i parts)) (forms_of part))
+    here ∙ ap (λ (l : List LinView). with_forms l (forms_of part)) before
+    ∙ sym (forms-append forms (flat_map forms_of (take i parts)) (forms_of part))
     ∙ ap (with_forms forms) (sym more)
   where
     more : flat_map forms_of (take (i + 1) parts) ≡ flat_map forms_of (take i parts) ++ forms_of part
-    more = ap (flat_map forms_of) (take_more parts i part within ∙ ap (λ (p : Raw). take i parts ++ p ∷ []) (sym is)) ∙ flat_map-append forms_of (take i parts) (part ∷ [])
+    more = ap (flat_map forms_of) (take_more parts i part within ∙ ap (λ (p : Raw). take i parts ++ p ∷ []) (sym is))
+        ∙ flat_map-append forms_of (take i parts) (part ∷ [])
         ∙ ap (λ (l : List LinView). flat_map forms_of (take i parts) ++ l) (append-nil (forms_of part))
 
 pub begins-more : (parts : List Raw) (i : ℕ) (part : Raw) → i < length parts → part ≡ slice_index_or parts i part
     → list_all all_begin_well (take i parts) ≡ true → all_begin_well part ≡ true → list_all all_begin_well (take (i + 1) parts) ≡ true
 begins-more parts i part within is before here =
-    list_all_more all_begin_well parts i part within ∙ ap (λ b. b && all_begin_well (slice_index_or parts i part)) before ∙ ap all_begin_well (sym is) ∙ here
+    list_all_more all_begin_well parts i part within ∙ ap (λ b. b && all_begin_well (slice_index_or parts i part)) before
+    ∙ ap all_begin_well (sym is) ∙ here
 
 all-append : (q : LinView → Bool) (xs ys : List LinView) → list_all q (xs ++ ys) ≡ (list_all q xs && list_all q ys)
 all-append q [] ys = refl
@@ -154,14 +165,17 @@ module _ (literal : LiteralsHold) (divide : DividedHolds) (quotient : QuotientIs
   }
 
   constant-placed : (c s : ℤ) → s ≡ c → IsPlaced (cond (int_le c (pos 0)) (node.And []) (node.Or [])) (int_le s (pos 0))
-  constant-placed c s e = subst (λ (z : ℤ). IsPlaced (cond (int_le c (pos 0)) (node.And []) (node.Or [])) (int_le z (pos 0))) (sym e) (by-truth (int_le c (pos 0)))
+  constant-placed c s e = subst (λ (z : ℤ). IsPlaced (cond (int_le c (pos 0)) (node.And []) (node.Or [])) (int_le z (pos 0))) (sym e)
+      (by-truth (int_le c (pos 0)))
     where
       by-truth : (b : Bool) → IsPlaced (cond b (node.And []) (node.Or [])) b
       by-truth true = record { below = below-And (length forms) []; same = truth-And (atom_at forms x) [] }
       by-truth false = record { below = below-Or (length forms) []; same = truth-Or (atom_at forms x) [] }
 
-  form-placed : (l : LinView) (fs : List Factor) → l.factors ≡ fs → Has forms (atoms_in l fs) → begins_well fs ≡ true → IsPlaced (placed_form forms l fs) (int_le (form_at x l) (pos 0))
-  form-placed l [] is has well = constant-placed l.constant (form_at x l) (ap (λ (fs : List Factor). sum_at x fs +ℤ l.constant) is ∙ nothing l.constant)
+  form-placed : (l : LinView) (fs : List Factor) → l.factors ≡ fs → Has forms (atoms_in l fs) → begins_well fs ≡ true
+      → IsPlaced (placed_form forms l fs) (int_le (form_at x l) (pos 0))
+  form-placed l [] is has well = constant-placed l.constant (form_at x l)
+      (ap (λ (fs : List Factor). sum_at x fs +ℤ l.constant) is ∙ nothing l.constant)
     where
       nothing : (z : ℤ) → pos 0 +ℤ z ≡ z
       nothing z = omega (arith, ints)
@@ -170,22 +184,27 @@ module _ (literal : LiteralsHold) (divide : DividedHolds) (quotient : QuotientIs
       let some : 0 < length l.factors = let long = ap length is in omega (arith, long) in
       let law = canonical-same literal divide quotient x l some (ap begins_well is ∙ well) in
       let sign = ap is_positive is in
-      by-sign (int_lt f.1 (pos 0)) (int_le (form_at x (canonical l)) (pos 0)) (int_le (form_at x l) (pos 0)) (atom-placed (canonical l) is_there)
+      by-sign (int_lt f.1 (pos 0)) (int_le (form_at x (canonical l)) (pos 0)) (int_le (form_at x l) (pos 0))
+      (atom-placed (canonical l) is_there)
       (law ∙ ap (λ b. cond b (int_le (form_at x (canonical l)) (pos 0)) (not (int_le (form_at x (canonical l)) (pos 0)))) sign)
     where
       by-sign : (b t u : Bool) → IsPlaced (node.At (place_of forms (canonical l))) t → u ≡ cond (not b) t (not t)
           → IsPlaced (cond b (node.Not (node.At (place_of forms (canonical l)))) (node.At (place_of forms (canonical l)))) u
-      by-sign true t u h e = subst (IsPlaced (node.Not (node.At (place_of forms (canonical l))))) (sym e) (negated-placed (node.At (place_of forms (canonical l))) t h)
+      by-sign true t u h e = subst (IsPlaced (node.Not (node.At (place_of forms (canonical l))))) (sym e)
+          (negated-placed (node.At (place_of forms (canonical l))) t h)
       by-sign false t u h e = subst (IsPlaced (node.At (place_of forms (canonical l)))) (sym e) h
 
   abbrev Places : Raw → Type 0
   Places raw = Has forms (forms_of raw) → all_begin_well raw ≡ true → IsPlaced (placed forms raw) (raw_truth x raw)
 
-  each-placed : (parts : List (WithRaw Places)) → Has forms (flat_map forms_of (bare_raw parts)) → list_all all_begin_well (bare_raw parts) ≡ true
-      → (list_all (atoms_below (length forms)) (map (placed forms) (bare_raw parts)) ≡ true) × (map (λ r. truth (atom_at forms x) (placed forms r)) (bare_raw parts) ≡ map (raw_truth x) (bare_raw parts))
+  each-placed : (parts : List (WithRaw Places)) → Has forms (flat_map forms_of (bare_raw parts)) → list_all all_begin_well (bare_raw parts)
+      ≡ true
+      → (list_all (atoms_below (length forms)) (map (placed forms) (bare_raw parts)) ≡ true)
+      × (map (λ r. truth (atom_at forms x) (placed forms r)) (bare_raw parts) ≡ map (raw_truth x) (bare_raw parts))
   each-placed [] has well = (refl, refl)
   each-placed (p ∷ parts) has well =
-      let (here, more) = and_parts (list_all (λ l. list_any (same_form l) forms) (forms_of p.0)) (list_all (λ l. list_any (same_form l) forms) (flat_map forms_of (bare_raw parts)))
+      let (here, more) = and_parts (list_all (λ l. list_any (same_form l) forms) (forms_of p.0))
+      (list_all (λ l. list_any (same_form l) forms) (flat_map forms_of (bare_raw parts)))
       (sym (all-append (λ l. list_any (same_form l) forms) (forms_of p.0) (flat_map forms_of (bare_raw parts))) ∙ has) in
       let (first, rest) = and_parts (all_begin_well p.0) (list_all all_begin_well (bare_raw parts)) well in
       let whole = p.1 here first in
@@ -202,23 +221,32 @@ module _ (literal : LiteralsHold) (divide : DividedHolds) (quotient : QuotientIs
 
   places : InductiveRaw Places
   places = record {
-    form = λ l has well. subst (λ (n : Node). IsPlaced n (raw_truth x (Le l))) (sym (placed-Le forms l)) (subst (IsPlaced (placed_form forms l l.factors)) (sym (raw-Le x l))
+    form = λ l has well. subst (λ (n : Node). IsPlaced n (raw_truth x (Le l))) (sym (placed-Le forms l))
+        (subst (IsPlaced (placed_form forms l l.factors)) (sym (raw-Le x l))
         (form-placed l l.factors refl (subst (Has forms) (forms-Le l) has) (sym (begins-Le l) ∙ well)));
-    negated = λ inner h has well. subst (λ (n : Node). IsPlaced n (raw_truth x (Not inner))) (sym (placed-Not forms inner)) (subst (IsPlaced (node.Not (placed forms inner))) (sym (raw-Not x inner))
-        (negated-placed (placed forms inner) (raw_truth x inner) (h (subst (Has forms) (forms-Not inner) has) (sym (begins-Not inner) ∙ well))));
+    negated = λ inner h has well. subst (λ (n : Node). IsPlaced n (raw_truth x (Not inner))) (sym (placed-Not forms inner))
+        (subst (IsPlaced (node.Not (placed forms inner))) (sym (raw-Not x inner))
+        (negated-placed (placed forms inner) (raw_truth x inner) (h (subst (Has forms) (forms-Not inner) has)
+        (sym (begins-Not inner) ∙ well))));
     all = λ parts has well.
-        let (below, same) = each-placed parts (subst (Has forms) (forms-And (bare_raw parts)) has) (sym (begins-And (bare_raw parts)) ∙ well) in
+        let (below, same) = each-placed parts (subst (Has forms) (forms-And (bare_raw parts)) has)
+        (sym (begins-And (bare_raw parts)) ∙ well) in
         subst (λ (n : Node). IsPlaced n (raw_truth x (And (bare_raw parts)))) (sym (placed-And forms (bare_raw parts))) (record {
           below = below-And (length forms) (map (placed forms) (bare_raw parts)) ∙ below;
-          same = truth-And (atom_at forms x) (map (placed forms) (bare_raw parts)) ∙ list_all-map (truth (atom_at forms x)) (placed forms) (bare_raw parts)
-              ∙ all-of (λ r. truth (atom_at forms x) (placed forms r)) (bare_raw parts) ∙ ap (list_all (λ (b : Bool). b)) same ∙ sym (all-of (raw_truth x) (bare_raw parts)) ∙ sym (raw-And x (bare_raw parts));
+          same = truth-And (atom_at forms x) (map (placed forms) (bare_raw parts))
+              ∙ list_all-map (truth (atom_at forms x)) (placed forms) (bare_raw parts)
+              ∙ all-of (λ r. truth (atom_at forms x) (placed forms r)) (bare_raw parts) ∙ ap (list_all (λ (b : Bool). b)) same
+              ∙ sym (all-of (raw_truth x) (bare_raw parts)) ∙ sym (raw-And x (bare_raw parts));
         });
     any = λ parts has well.
-        let (below, same) = each-placed parts (subst (Has forms) (forms-Or (bare_raw parts)) has) (sym (begins-Or (bare_raw parts)) ∙ well) in
+        let (below, same) = each-placed parts (subst (Has forms) (forms-Or (bare_raw parts)) has) (sym (begins-Or (bare_raw parts)) ∙ well)
+        in
         subst (λ (n : Node). IsPlaced n (raw_truth x (Or (bare_raw parts)))) (sym (placed-Or forms (bare_raw parts))) (record {
           below = below-Or (length forms) (map (placed forms) (bare_raw parts)) ∙ below;
-          same = truth-Or (atom_at forms x) (map (placed forms) (bare_raw parts)) ∙ list_any-map (truth (atom_at forms x)) (placed forms) (bare_raw parts)
-              ∙ any-of (λ r. truth (atom_at forms x) (placed forms r)) (bare_raw parts) ∙ ap (list_any (λ (b : Bool). b)) same ∙ sym (any-of (raw_truth x) (bare_raw parts)) ∙ sym (raw-Or x (bare_raw parts));
+          same = truth-Or (atom_at forms x) (map (placed forms) (bare_raw parts))
+              ∙ list_any-map (truth (atom_at forms x)) (placed forms) (bare_raw parts)
+              ∙ any-of (λ r. truth (atom_at forms x) (placed forms r)) (bare_raw parts) ∙ ap (list_any (λ (b : Bool). b)) same
+              ∙ sym (any-of (raw_truth x) (bare_raw parts)) ∙ sym (raw-Or x (bare_raw parts));
         });
   }
 

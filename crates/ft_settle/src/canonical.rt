@@ -1,6 +1,7 @@
 // Canonical forms: divided by the greatest common divisor of the factors, and negated where the first is negative.
 
-ghost use Rattle.std.specs.Prelude.{◌≡◌, ◌≤◌, ◌<◌, ◌↔◌, IsTrue, IfOk, ℕ, pos, neg_ℤ, ◌-ℤ◌, length, map, nat_le, unsigned_abs, true, if◌then◌else◌};
+ghost use Rattle.std.specs.Prelude.{◌≡◌, ◌≤◌, ◌<◌, ◌↔◌, IsTrue, IfOk, ℕ, pos, neg_ℤ, ◌-ℤ◌, length, map, nat_le, unsigned_abs, true};
+ghost use Rattle.std.specs.Prelude.{if◌then◌else◌};
 ghost use Rattle.std.specs.Int.{IsGcd};
 ghost use Rattle.ft_base.specs.Division.{floor_of};
 ghost use Rattle.ft_linear.specs.meaning.Bounds.{value_most};

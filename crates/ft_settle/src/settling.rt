@@ -1,12 +1,14 @@
 // Settling a formula: its atoms made canonical, each once, and numbered by their first occurrence.
 
-ghost use Rattle.std.specs.Prelude.{◌≡◌, ◌≤◌, ◌<◌, IfOk, OnOk, ℕ, ℤ, pos, int_le, [], true, length, map, nat_le, unsigned_abs, All, if◌then◌else◌};
+ghost use Rattle.std.specs.Prelude.{◌≡◌, ◌≤◌, ◌<◌, IfOk, OnOk, ℕ, ℤ, pos, int_le, [], true, length, map, nat_le, unsigned_abs, All};
+ghost use Rattle.std.specs.Prelude.{if◌then◌else◌};
 ghost use Rattle.std.specs.List.{IsDistinct, list_all, list_any, flat_map, position_or_len};
 ghost use Rattle.ft_linear.specs.meaning.Form.{values_at};
 ghost use Rattle.ft_linear.specs.meaning.Formula.{truth_at};
 ghost use Rattle.ft_settle.specs.meaning.Raw.{is_moderate, moderate_most, raw_truth};
 ghost use Rattle.ft_settle.specs.meaning.Canonical.{IsCanonical, canonical};
-ghost use Rattle.ft_settle.specs.meaning.Settled.{AreFirstOccurrences, atoms_in, forms_of, place_of, placed, placed_form, same_form, settled, with_form, with_forms};
+ghost use Rattle.ft_settle.specs.meaning.Settled.{AreFirstOccurrences, atoms_in, forms_of, place_of, placed, placed_form, same_form};
+ghost use Rattle.ft_settle.specs.meaning.Settled.{settled, with_form, with_forms};
 ghost use Rattle.ft_settle.specs.settling.Factors.{all_begin_well, begins_well};
 
 use crate::canonical::{canonical, is_positive, same_form};

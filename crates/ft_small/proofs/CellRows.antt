@@ -1,5 +1,6 @@
 -- The cells of a small set's table are its rows.
-use Rattle.std.proofs.Common.{◌≡◌, ◌∙◌, sym, ap, subst, refl, ℕ, ◌+◌, ℤ, Bool, true, false, ◌&&◌, ◌||◌, cond, List, [], ◌∷◌, map, length, slice_index_or, Some, arith, true≢false}
+use Rattle.std.proofs.Common.{◌≡◌, ◌∙◌, sym, ap, subst, refl, ℕ, ◌+◌, ℤ, Bool, true, false, ◌&&◌, ◌||◌, cond, List, [], ◌∷◌, map, length}
+use Rattle.std.proofs.Common.{slice_index_or, Some, arith, true≢false}
 use Rattle.std.specs.Prelude.{◌==◌, filter, count_by, int_le}
 use Rattle.std.specs.List.{All, find, list_any, flat_map, zip, enumerate_from}
 use Rattle.std.specs.Ordering.{int_eq}
@@ -28,7 +29,14 @@ use Rattle.ft_small.proofs.RangeLemmas.{proper-at}
 
 -- the cell of a row
 abbrev pub cell_of : (n target read : ℕ) → Row → Cell
-cell_of n target read row = record { row = n; column = 0; target = target; conds = cond_of read row.guard ∷ cond.Yes ∷ []; term = term_of read row.entry }
+cell_of n target read row = record {
+  row = n;
+  column = 0;
+  target = target;
+  conds = cond_of read row.guard ∷ cond.Yes ∷ [];
+  term =
+      term_of read row.entry;
+}
 
 abbrev pub cells_from : (n target read : ℕ) → List Row → List Cell
 cells_from n target read [] = []
@@ -75,13 +83,16 @@ module _ (V : View) (read : ℕ) where
       (cond-true (target == target) (cell_of n target read row ∷ filter (λ c. c.target == target) (cells_from (n + 1) target read rows))
       (filter (λ c. c.target == target) (cells_from (n + 1) target read rows)) (eq-eqb target target refl))
       ∙ kept-alike (cell_holds V (cell_of n target read row)) (row_holds (V.now read) row) (cell-holds n target row)
-      (cell_of n target read row) row (holding V (filter (λ c. c.target == target) (cells_from (n + 1) target read rows))) (filter (row_holds (V.now read)) rows)
+      (cell_of n target read row) row (holding V (filter (λ c. c.target == target) (cells_from (n + 1) target read rows)))
+      (filter (row_holds (V.now read)) rows)
       (entry-value row.guard row.entry) (values-from (n + 1) target rows)
 
   pub values-held : (s : Section) (target : ℕ) (rows : List Row)
-      → map (λ c. value V c.term) (holding V (cells_for target (table_of s target read rows).grid)) ≡ map (row_value (V.now read)) (filter (row_holds (V.now read)) rows)
+      → map (λ c. value V c.term) (holding V (cells_for target (table_of s target read rows).grid))
+      ≡ map (row_value (V.now read)) (filter (row_holds (V.now read)) rows)
   values-held s target rows =
-      ap (λ cs. map (λ c. value V c.term) (holding V (filter (λ c. c.target == target) cs))) (cells-are 0 target read rows) ∙ values-from 0 target rows
+      ap (λ cs. map (λ c. value V c.term) (holding V (filter (λ c. c.target == target) cs))) (cells-are 0 target read rows)
+      ∙ values-from 0 target rows
 
 -- where one row holds, its value is the only one
 pub record OneResult (rows : List Row) (range : ℤ × ℤ) (z : ℤ) : Type 0 where
@@ -92,10 +103,11 @@ pub record OneResult (rows : List Row) (range : ℤ × ℤ) (z : ℤ) : Type 0 w
 
 find-filter : (p : Row → Bool) (rows : List Row) (r : Row) (rest : List Row) → filter p rows ≡ r ∷ rest → find p rows ≡ Some r
 find-filter p [] r rest e = cc
-find-filter p (x ∷ xs) r rest e = elim (p x) as (λ b. cond b (x ∷ filter p xs) (filter p xs) ≡ r ∷ rest → cond b (Some x) (find p xs) ≡ Some r) [
-  | true ↦ λ e. cc
-  | false ↦ λ e. find-filter p xs r rest e
-] e
+find-filter p (x ∷ xs) r rest e = elim (p x) as (λ b. cond b (x ∷ filter p xs) (filter p xs) ≡ r ∷ rest → cond b (Some x) (find p xs)
+    ≡ Some r) [
+      | true ↦ λ e. cc
+      | false ↦ λ e. find-filter p xs r rest e
+    ] e
 
 count-filter : (p : Row → Bool) (rows : List Row) → count_by p rows ≡ length (filter p rows)
 count-filter p [] = refl
@@ -126,7 +138,8 @@ one_of rows range z (r ∷ []) is one within =
 pub one-result : (rows : List Row) (range : ℤ × ℤ) (z : ℤ) → is_proper_at rows range z ≡ true → OneResult rows range z
 one-result rows range z e =
     let both = and_parts (count_by (row_holds z) rows == 1) (is_result_within range (result_at rows z)) e in
-    one_of rows range z (filter (row_holds z) rows) refl (sym (count-filter (row_holds z) rows) ∙ eqb-true (count_by (row_holds z) rows) 1 both.0) both.1
+    one_of rows range z (filter (row_holds z) rows) refl (sym (count-filter (row_holds z) rows)
+    ∙ eqb-true (count_by (row_holds z) rows) 1 both.0) both.1
 
 -- cells with one value are one cell
 all-given : (V : View) (range : ℤ × ℤ) (given : ℤ) (held : List Cell) → map (λ c. value V c.term) held ≡ given ∷ [] → IsWithin range given
@@ -138,9 +151,11 @@ all-given V range given (c ∷ []) e within =
     (refl, λ k d below. within-first k d (omega (arith, below)) is)
   where
     within-first : (k : ℕ) (d : Cell) → k ≡ 0 → value V c.term ≡ given → IsWithin range (value V (slice_index_or (c ∷ []) k d).term)
-    within-first k d zero_it is = subst (λ i. IsWithin range (value V (slice_index_or (c ∷ []) i d).term)) (sym zero_it) (subst (IsWithin range) (sym is) within)
+    within-first k d zero_it is = subst (λ i. IsWithin range (value V (slice_index_or (c ∷ []) i d).term)) (sym zero_it)
+        (subst (IsWithin range) (sym is) within)
 
-pub one-cell : (V : View) (cs : List Cell) (range : ℤ × ℤ) (given : ℤ) → map (λ c. value V c.term) (holding V cs) ≡ given ∷ [] → IsWithin range given
+pub one-cell : (V : View) (cs : List Cell) (range : ℤ × ℤ) (given : ℤ) → map (λ c. value V c.term) (holding V cs) ≡ given ∷ []
+    → IsWithin range given
     → HasOneCell V cs range
 one-cell V cs range given is within =
     let both = all-given V range given (holding V cs) is within in record { one = both.0; in_range = both.1 }
@@ -178,5 +193,6 @@ from-cells V rows range z (c ∷ []) (r ∷ []) is same one all =
 pub rows-proper : (V : View) (read : ℕ) (s : Section) (target : ℕ) (rows : List Row) (range : ℤ × ℤ)
     → HasOneCell V (cells_for target (table_of s target read rows).grid) range → is_proper_at rows range (V.now read) ≡ true
 rows-proper V read s target rows range one =
-    from-cells V rows range (V.now read) (holding V (cells_for target (table_of s target read rows).grid)) (filter (row_holds (V.now read)) rows) refl
+    from-cells V rows range (V.now read) (holding V (cells_for target (table_of s target read rows).grid))
+    (filter (row_holds (V.now read)) rows) refl
     (values-held V read s target rows) one.one one.in_range

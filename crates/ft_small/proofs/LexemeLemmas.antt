@@ -1,5 +1,6 @@
 -- What a token is to the grammar, by the tests on it.
-use Rattle.std.proofs.Common.{◌≡◌, ◌∙◌, sym, ap, subst, refl, ℕ, zero, suc, ◌+◌, ◌-◌, ◌*◌, ◌<◌, ◌≤◌, Bool, true, false, ◌&&◌, List, [], ◌∷◌, length, take, arith, true≢false}
+use Rattle.std.proofs.Common.{◌≡◌, ◌∙◌, sym, ap, subst, refl, ℕ, zero, suc, ◌+◌, ◌-◌, ◌*◌, ◌<◌, ◌≤◌, Bool, true, false, ◌&&◌, List, [], ◌∷◌}
+use Rattle.std.proofs.Common.{length, take, arith, true≢false}
 use Rattle.std.specs.Prelude.{fold, ◌==◌, ◌↔◌}
 use Rattle.std.specs.Str.{bytes_eq}
 use Rattle.std.specs.List.{All}
@@ -44,7 +45,8 @@ module _ (text : List ℕ) (tokens : List Token) (token : Token) (rest : List To
       ap (lexemes_of text) first
       ∙ ap (λ l. l ∷ lexemes_of text rest) (as_sign token.kind (token_text text token) both.0 ∙ ap sign (same_bytes _ _ both.1))
 
-  pub lexeme-read : (kind : TokenKind) → token.kind ≡ kind → lexemes_of text tokens ≡ lexeme_as kind (token_text text token) ∷ lexemes_of text rest
+  pub lexeme-read : (kind : TokenKind) → token.kind ≡ kind → lexemes_of text tokens ≡ lexeme_as kind (token_text text token)
+      ∷ lexemes_of text rest
   lexeme-read kind is = ap (lexemes_of text) first ∙ ap (λ k. lexeme_as k (token_text text token) ∷ lexemes_of text rest) is
 
 pub ruleset reads = (word-read, sign-read, lexeme-read)
@@ -52,7 +54,8 @@ pub ruleset reads = (word-read, sign-read, lexeme-read)
 same_tested : (xs ys : List ℕ) → xs ≡ ys → bytes_eq xs ys ≡ true
 same_tested xs ys h = grind (arith, bytes_eq-Decides)
 
-word-tested : (kind : TokenKind) (bytes expected : List ℕ) → lexeme_as kind bytes ≡ word expected → (is_word_kind kind && bytes_eq bytes expected) ≡ true
+word-tested : (kind : TokenKind) (bytes expected : List ℕ) → lexeme_as kind bytes ≡ word expected
+    → (is_word_kind kind && bytes_eq bytes expected) ≡ true
 word-tested Word bytes expected e = same_tested bytes expected cc
 word-tested Name bytes expected e = cc
 word-tested Number bytes expected e = cc
@@ -60,7 +63,8 @@ word-tested Sign bytes expected e = cc
 word-tested End bytes expected e = cc
 word-tested Bad bytes expected e = cc
 
-sign-tested : (kind : TokenKind) (bytes expected : List ℕ) → lexeme_as kind bytes ≡ sign expected → (is_sign_kind kind && bytes_eq bytes expected) ≡ true
+sign-tested : (kind : TokenKind) (bytes expected : List ℕ) → lexeme_as kind bytes ≡ sign expected
+    → (is_sign_kind kind && bytes_eq bytes expected) ≡ true
 sign-tested Sign bytes expected e = same_tested bytes expected cc
 sign-tested Name bytes expected e = cc
 sign-tested Number bytes expected e = cc
@@ -118,12 +122,14 @@ module _ (text : List ℕ) (tokens : List Token) (token : Token) (rest : List To
   word-first expected is = subst (Starts (word expected)) (sym (word-read text tokens token rest first expected is)) refl
 
 -- the tokens after the first are read ones too
-pub rest-admitted : (text : List ℕ) (tokens : List Token) (token : Token) (rest : List Token) → tokens ≡ token ∷ rest → All (IsAdmitted text) tokens → All (IsAdmitted text) rest
+pub rest-admitted : (text : List ℕ) (tokens : List Token) (token : Token) (rest : List Token) → tokens ≡ token ∷ rest
+    → All (IsAdmitted text) tokens → All (IsAdmitted text) rest
 rest-admitted text tokens token rest first all =
     let here : All (IsAdmitted text) (token ∷ rest) = subst (All (IsAdmitted text)) first all in
     λ k d below. here (suc k) d (omega arith)
 
-pub first-admitted : (text : List ℕ) (tokens : List Token) (token : Token) (rest : List Token) → tokens ≡ token ∷ rest → All (IsAdmitted text) tokens → IsAdmitted text token
+pub first-admitted : (text : List ℕ) (tokens : List Token) (token : Token) (rest : List Token) → tokens ≡ token ∷ rest
+    → All (IsAdmitted text) tokens → IsAdmitted text token
 first-admitted text tokens token rest first all = (subst (All (IsAdmitted text)) first all) zero token (omega arith)
 
 -- the value of digits after these
@@ -135,7 +141,8 @@ digits-grow value [] = omega arith
 digits-grow value (d ∷ ds) = omega (arith, digits-grow (value * 10 + (d - 48)) ds)
 
 -- where another digit follows such a value, the whole is too great
-pub decimal-far : (value : ℕ) (digits : List ℕ) (i : ℕ) → i < length digits → 100000000 < digits_from value (take i digits) → 1000000000 < digits_from value digits
+pub decimal-far : (value : ℕ) (digits : List ℕ) (i : ℕ) → i < length digits → 100000000 < digits_from value (take i digits)
+    → 1000000000 < digits_from value digits
 decimal-far value [] i below far = absurd (omega (arith, below))
 decimal-far value (d ∷ ds) zero below far = omega (arith, far, digits-grow (value * 10 + (d - 48)) ds)
 decimal-far value (d ∷ ds) (suc i) below far = decimal-far (value * 10 + (d - 48)) ds i (omega (arith, below)) far
@@ -144,5 +151,8 @@ decimal-far value (d ∷ ds) (suc i) below far = decimal-far (value * 10 + (d - 
 pub end-alone : (text : List ℕ) (tokens : List Token) (token : Token) (rest : List Token) → tokens ≡ token ∷ rest → token.kind ≡ End
     → (is_empty : Bool) → is_empty ≡ (length rest == 0) → (is_empty ≡ true) ↔ (lexemes_of text tokens ≡ end ∷ [])
 end-alone text tokens token [] first kind is_empty is = (λ e. lexeme-read text tokens token [] first End kind, λ e. is)
-end-alone text tokens token (u ∷ more) first kind is_empty is =
-    (λ e. let none = eqb-true (length (u ∷ more)) 0 (sym is ∙ e) in absurd (omega (arith, none)), λ e. let f = sym (ap (lexemes_of text) first) ∙ e in cc)
+end-alone text tokens token (u ∷ more) first kind is_empty is = (
+  λ e. let none = eqb-true (length (u ∷ more)) 0 (sym is ∙ e) in absurd (omega (arith, none)),
+  λ e. let f =
+      sym (ap (lexemes_of text) first) ∙ e in cc,
+)

@@ -1,10 +1,12 @@
 -- The lexemes of rows, one row at a time.
-use Rattle.std.proofs.Common.{◌≡◌, ◌∙◌, sym, ap, refl, ℕ, ◌<◌, Bool, true, false, not, ◌&&◌, ◌||◌, cond, List, [], ◌∷◌, ◌++◌, map, length, arith}
+use Rattle.std.proofs.Common.{◌≡◌, ◌∙◌, sym, ap, refl, ℕ, ◌<◌, Bool, true, false, not, ◌&&◌, ◌||◌, cond, List, [], ◌∷◌, ◌++◌, map, length}
+use Rattle.std.proofs.Common.{arith}
 use Rattle.std.specs.List.{list_any}
 use Rattle.std.specs.Str.{bytes_eq}
 use Rattle.std.specs.Prelude.{codes}
 use Rattle.ft_small.specs.meaning.Lexeme.{Lexeme, number, sign, end}
-use Rattle.ft_small.specs.meaning.SmallSet.{bound_lexemes, guard_lexemes, entry_lexemes, row_lexemes, rows_lexemes, head_lexemes, variables_lexemes, tables_lexemes, block_lexemes, small_set_lexemes, all_differ}
+use Rattle.ft_small.specs.meaning.SmallSet.{bound_lexemes, guard_lexemes, entry_lexemes, row_lexemes, rows_lexemes, head_lexemes}
+use Rattle.ft_small.specs.meaning.SmallSet.{variables_lexemes, tables_lexemes, block_lexemes, small_set_lexemes, all_differ}
 use Rattle.ft_small.specs.declared.small_set.Row.{Row}
 use Rattle.ft_small.specs.declared.small_set.Variables.{Variables}
 use Rattle.ft_small.specs.declared.small_set.TableRows.{TableRows}
@@ -47,8 +49,10 @@ row-longer read row rest whole is =
     omega (arith, ap length is, inner, outer)
 
 -- the parts of a set, read one after the other
-pub small-read : (set : List ℕ) (period : ℕ) (v : Variables) (t : TableRows) (block controlled output : List ℕ) (whole after_head after_variables after_tables rest : List Lexeme)
-    → whole ≡ head_lexemes set period after_head → after_head ≡ variables_lexemes v after_variables → after_variables ≡ tables_lexemes v t after_tables
+pub small-read : (set : List ℕ) (period : ℕ) (v : Variables) (t : TableRows) (block controlled output : List ℕ)
+    (whole after_head after_variables after_tables rest : List Lexeme)
+    → whole ≡ head_lexemes set period after_head → after_head ≡ variables_lexemes v after_variables → after_variables
+    ≡ tables_lexemes v t after_tables
     → controlled ≡ v.controlled.name → output ≡ v.output.name → after_tables ≡ block_lexemes block controlled output rest → rest ≡ end ∷ []
     → whole ≡ small_set_lexemes (record { name = set; period = period; variables = v; rows = t; block = block })
 small-read set period v t block controlled output whole after_head after_variables after_tables rest a b c d e f g =
@@ -67,7 +71,8 @@ module _ {A : Type 0} (f : A → List ℕ) (names : List A) (first : A) (rest : 
       let here : list_any (bytes_eq (f first)) (map f rest) ≡ false = any-map (bytes_eq (f first)) f rest ∙ sym is ∙ none in
       more ∙ sym (ap (λ b. not b && all_differ (map f rest)) here) ∙ ap (λ ns. all_differ (map f ns)) (sym parts)
 
-  pub differ-else : (found : Bool) → found ≡ list_any (λ other. bytes_eq (f first) (f other)) rest → found ≡ true → not found ≡ all_differ (map f names)
+  pub differ-else : (found : Bool) → found ≡ list_any (λ other. bytes_eq (f first) (f other)) rest → found ≡ true → not found
+      ≡ all_differ (map f names)
   differ-else found is some =
       let here : list_any (bytes_eq (f first)) (map f rest) ≡ true = any-map (bytes_eq (f first)) f rest ∙ sym is ∙ some in
       ap not some ∙ sym (ap (λ b. not b && all_differ (map f rest)) here) ∙ ap (λ ns. all_differ (map f ns)) (sym parts)

@@ -1,5 +1,6 @@
 -- What the tests on a small set say of its checked set: too many points, and the first table that isn't proper.
-use Rattle.std.proofs.Common.{◌≡◌, ◌∙◌, sym, ap, subst, refl, ℕ, zero, suc, ◌<◌, ◌++◌, ℤ, pos, Bool, true, false, List, [], ◌∷◌, slice_get, Option, Some, None, inl, inr, ⊎_elim, codes, true≢false}
+use Rattle.std.proofs.Common.{◌≡◌, ◌∙◌, sym, ap, subst, refl, ℕ, zero, suc, ◌<◌, ◌++◌, ℤ, pos, Bool, true, false, List, [], ◌∷◌, slice_get}
+use Rattle.std.proofs.Common.{Option, Some, None, inl, inr, ⊎_elim, codes, true≢false}
 use Rattle.std.specs.Prelude.{◌==◌, if◌then◌else◌, IfNone}
 use Rattle.std.proofs.lemmas.Bool.{cases_Bool, eq-eqb, eqb-true}
 use Rattle.std.proofs.lemmas.Option.{none-some, same_Some}
@@ -22,7 +23,8 @@ use Rattle.ft_small.specs.steps.Short.{AreShort}
 use Rattle.ft_small.specs.meaning.Finding.{HasPoints, IsFirstImproper, IsLarge, IsTitle, section_word}
 use Rattle.ft_small.specs.meaning.Laws.{SpelledHasSet, steady}
 use Rattle.ft_small.specs.steps.Rows.{IsSameOn, is_proper_at}
-use Rattle.ft_small.specs.steps.Verdict.{AreProper, DiffersAt, HasLarge, IsFirstImproperIn, IsImproperIn, IsImproperOn, defined_in, place_in, rows_in}
+use Rattle.ft_small.specs.steps.Verdict.{AreProper, DiffersAt, HasLarge, IsFirstImproperIn, IsImproperIn, IsImproperOn, defined_in}
+use Rattle.ft_small.specs.steps.Verdict.{place_in, rows_in}
 use Rattle.ft_small.specs.declared.small_set.Row.{Row}
 use Rattle.ft_small.specs.declared.small_set.Variable.{Variable}
 use Rattle.ft_small.specs.declared.small_set.SmallSet.{SmallSet}
@@ -69,9 +71,27 @@ is-set f good short names = record {
 
 module _ (f : SmallSet) (S : Tables) (is : IsSetOf f S) where
   pub points : HasLarge f.variables → HasPoints S
-  points (inl mon) = record { place = 0; variable = var_of Mon f.variables.monitored; kind = inl (declared f S is 0 _ refl, refl); large = mon }
-  points (inr (inl input)) = record { place = 2; variable = var_of Input f.variables.input; kind = inr (inl (declared f S is 2 _ refl, refl)); large = input }
-  points (inr (inr output)) = record { place = 3; variable = var_of Output f.variables.output; kind = inr (inr (declared f S is 3 _ refl, refl)); large = output }
+  points (inl mon) = record {
+    place = 0;
+    variable = var_of Mon f.variables.monitored;
+    kind = inl (declared f S is 0 _ refl, refl);
+    large =
+        mon;
+  }
+  points (inr (inl input)) = record {
+    place = 2;
+    variable = var_of Input f.variables.input;
+    kind =
+        inr (inl (declared f S is 2 _ refl, refl));
+    large = input;
+  }
+  points (inr (inr output)) = record {
+    place = 3;
+    variable = var_of Output f.variables.output;
+    kind =
+        inr (inr (declared f S is 3 _ refl, refl));
+    large = output;
+  }
 
   pub few : (HasLarge f.variables → ⊥) → HasPoints S → ⊥
   few none p = at p.place (ap (λ vs. slice_get vs p.place) (sym is.vars) ∙ ⊎_elim (λ a. a.0) (λ b. ⊎_elim (λ a. a.0) (λ a. a.0) b) p.kind)
@@ -82,7 +102,9 @@ module _ (f : SmallSet) (S : Tables) (is : IsSetOf f S) where
       not-controlled : Some (var_of Con f.variables.controlled) ≡ Some p.variable → ⊥
       not-controlled e =
           let kind : Con ≡ p.variable.kind = ap (λ (w : Var). w.kind) (same_Some (var_of Con f.variables.controlled) p.variable e) in
-          ⊎_elim (λ a. true≢false (sym (ap (same_kind Mon) kind ∙ a.1))) (λ b. ⊎_elim (λ a. true≢false (sym (ap (same_kind Input) kind ∙ a.1))) (λ a. true≢false (sym (ap (same_kind Output) kind ∙ a.1))) b) p.kind
+          ⊎_elim (λ a. true≢false (sym (ap (same_kind Mon) kind ∙ a.1)))
+          (λ b. ⊎_elim (λ a. true≢false (sym (ap (same_kind Input) kind ∙ a.1)))
+          (λ a. true≢false (sym (ap (same_kind Output) kind ∙ a.1))) b) p.kind
 
       at : (x : ℕ) → slice_get (vars_of f.variables) x ≡ Some p.variable → ⊥
       at zero e = none (inl (is-large _ e))
@@ -111,13 +133,15 @@ module _ (f : SmallSet) (S : Tables) (is : IsSetOf f S) (good : AreGoodVariables
       let e = ap (λ vs. slice_get vs x) (sym is.vars) ∙ there in
       subst (IsWithin v.range) (sym (ap init_in e)) (inits-good f.variables good x v e)
 
-  now-within : (read : ℕ) (r : Variable) (l : VarKind) (z : ℤ) → slice_get (vars_of f.variables) read ≡ Some (var_of l r) → IsWithin (bounds_of r) z
+  now-within : (read : ℕ) (r : Variable) (l : VarKind) (z : ℤ) → slice_get (vars_of f.variables) read ≡ Some (var_of l r)
+      → IsWithin (bounds_of r) z
       → (x : ℕ) (v : Var) → slice_get S.vars x ≡ Some v → (b : Bool) → (x == read) ≡ b
       → IsWithin v.range (if b then z else init_in (slice_get (vars_of f.variables) x))
   now-within read r l z there within x v here false e = first-within x v here
   now-within read r l z there within x v here true e =
       let same : x ≡ read = eqb-true x read e in
-      subst (λ (w : Var). IsWithin w.range z) (is_declared f S is read (var_of l r) v there (subst (λ y. slice_get S.vars y ≡ Some v) same here)) within
+      subst (λ (w : Var). IsWithin w.range z) (is_declared f S is read (var_of l r) v there
+      (subst (λ y. slice_get S.vars y ≡ Some v) same here)) within
 
   local : (reads : List Read) (read : ℕ) (r : Variable) (l : VarKind) (z : ℤ) → slice_get (vars_of f.variables) read ≡ Some (var_of l r)
       → IsWithin (bounds_of r) z → IsLocal S reads (view_at (vars_of f.variables) read z)
@@ -128,12 +152,15 @@ module _ (f : SmallSet) (S : Tables) (is : IsSetOf f S) (good : AreGoodVariables
   }
 
   -- a table isn't proper where its rows aren't
-  improper-table : (s : Section) (target read : ℕ) (rows : List Row) (t r : Variable) (k l : VarKind) → slice_get (vars_of f.variables) target ≡ Some (var_of k t)
-      → slice_get (vars_of f.variables) read ≡ Some (var_of l r) → IsImproperOn rows (bounds_of r) (bounds_of t) → IsProper S (table_of s target read rows) → ⊥
+  improper-table : (s : Section) (target read : ℕ) (rows : List Row) (t r : Variable) (k l : VarKind)
+      → slice_get (vars_of f.variables) target ≡ Some (var_of k t)
+      → slice_get (vars_of f.variables) read ≡ Some (var_of l r) → IsImproperOn rows (bounds_of r) (bounds_of t)
+      → IsProper S (table_of s target read rows) → ⊥
   improper-table s target read rows t r k l there_t there_r (z, at) proper =
       let V = view_at (vars_of f.variables) read z in
       let now : V.now read ≡ z = ap (λ b. if b then z else init_in (slice_get (vars_of f.variables) read)) (eq-eqb read read refl) in
-      let one = proper V (local (grid_reads (table_of s target read rows).grid) read r l z there_r at.within) target (var_of k t) (declared f S is target (var_of k t) there_t) (eq-eqb target target refl) in
+      let one = proper V (local (grid_reads (table_of s target read rows).grid) read r l z there_r at.within) target (var_of k t)
+      (declared f S is target (var_of k t) there_t) (eq-eqb target target refl) in
       true≢false (sym (rows-proper V read s target rows (bounds_of t) one) ∙ ap (is_proper_at rows (bounds_of t)) now ∙ at.improper)
 
   improper-in : (s : Section) → IsImproperIn f s → IsProper S (table_in f S is s) → ⊥
@@ -142,13 +169,43 @@ module _ (f : SmallSet) (S : Tables) (is : IsSetOf f S) (good : AreGoodVariables
   improper-in section.Sof = improper-table section.Sof 3 2 f.rows.design f.variables.output f.variables.input Output Input refl refl
   improper-in section.Out = improper-table section.Out 1 3 f.rows.output f.variables.controlled f.variables.output Con Output refl refl
 
-  titled : (s : Section) (title : List ℕ) → title ≡ section_word s ++ codes " " ++ (defined_in f.variables s).name → IsTitle S (table_in f S is s) title
-  titled section.In title e = record { place = 2; variable = var_of Input f.variables.input; first = refl; declared = declared f S is 2 _ refl; text = e }
-  titled section.Req title e = record { place = 1; variable = var_of Con f.variables.controlled; first = refl; declared = declared f S is 1 _ refl; text = e }
-  titled section.Sof title e = record { place = 3; variable = var_of Output f.variables.output; first = refl; declared = declared f S is 3 _ refl; text = e }
-  titled section.Out title e = record { place = 1; variable = var_of Con f.variables.controlled; first = refl; declared = declared f S is 1 _ refl; text = e }
+  titled : (s : Section) (title : List ℕ) → title ≡ section_word s ++ codes " " ++ (defined_in f.variables s).name
+      → IsTitle S (table_in f S is s) title
+  titled section.In title e = record {
+    place = 2;
+    variable = var_of Input f.variables.input;
+    first = refl;
+    declared =
+        declared f S is 2 _ refl;
+    text = e;
+  }
+  titled section.Req title e = record {
+    place = 1;
+    variable = var_of Con f.variables.controlled;
+    first = refl;
+    declared =
+        declared f S is 1 _ refl;
+    text = e;
+  }
+  titled section.Sof title e = record {
+    place = 3;
+    variable = var_of Output f.variables.output;
+    first = refl;
+    declared =
+        declared f S is 3 _ refl;
+    text = e;
+  }
+  titled section.Out title e = record {
+    place = 1;
+    variable = var_of Con f.variables.controlled;
+    first = refl;
+    declared =
+        declared f S is 1 _ refl;
+    text = e;
+  }
 
-  pub first-improper : (s : Section) (title : List ℕ) → title ≡ section_word s ++ codes " " ++ (defined_in f.variables s).name → IsFirstImproperIn f s
+  pub first-improper : (s : Section) (title : List ℕ) → title ≡ section_word s ++ codes " " ++ (defined_in f.variables s).name
+      → IsFirstImproperIn f s
       → IsFirstImproper S title
   first-improper s title e first = record {
     place = place_in s;

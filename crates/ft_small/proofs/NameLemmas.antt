@@ -1,5 +1,6 @@
 -- A spelled set has names, since each token that is a name has the form of one.
-use Rattle.std.proofs.Common.{◌≡◌, ◌∙◌, sym, ap, subst, refl, ℕ, suc, ◌+◌, ◌-◌, Bool, true, false, ◌||◌, ◌&&◌, cond, inl, inr, List, [], ◌∷◌, codes, length, take, drop, arith, true≢false}
+use Rattle.std.proofs.Common.{◌≡◌, ◌∙◌, sym, ap, subst, refl, ℕ, suc, ◌+◌, ◌-◌, Bool, true, false, ◌||◌, ◌&&◌, cond, inl, inr, List, []}
+use Rattle.std.proofs.Common.{◌∷◌, codes, length, take, drop, arith, true≢false}
 use Rattle.std.specs.Prelude.{IsTrue, nat_le, if◌then◌else◌, Result, Ok, Err, IfOk}
 use Rattle.std.specs.Bool.{MatchBool}
 use Rattle.std.specs.List.{list_all, prefix_len}
@@ -11,7 +12,9 @@ use Rattle.ft_lex.specs.declared.token.TokenKind.TheVariants as kind
 use Rattle.ft_base.specs.Digits.{is_digit}
 use Rattle.ft_base.specs.Names as byte
 use Rattle.ft_lex.specs.meaning.Tokens.{AreTokensFrom, IsNameShape, IsNext, IsShape, is_last}
-use Rattle.ft_small.specs.meaning.SmallSet.{SpellsSmallSet, bound_lexemes, guard_lexemes, entry_lexemes, rows_lexemes, table_lexemes, variable_lexemes, variables_lexemes, tables_lexemes, head_lexemes, block_lexemes, small_set_lexemes, names_in}
+use Rattle.ft_small.specs.meaning.SmallSet.{SpellsSmallSet, bound_lexemes, guard_lexemes, entry_lexemes, rows_lexemes, table_lexemes}
+use Rattle.ft_small.specs.meaning.SmallSet.{variable_lexemes, variables_lexemes, tables_lexemes, head_lexemes, block_lexemes}
+use Rattle.ft_small.specs.meaning.SmallSet.{small_set_lexemes, names_in}
 use Rattle.ft_small.specs.meaning.SetOf.{HasNames}
 use Rattle.ft_small.specs.meaning.Lexeme.{Lexeme, word, name, number, sign, end, bad, is_short, lexeme_as, lexeme_of, lexemes_of}
 use Rattle.ft_small.specs.declared.small_set.Bound.{Bound}
@@ -45,7 +48,8 @@ prefix-named (b ∷ bytes) = by_test (byte.is_name_byte b) refl (prefix-named by
   where
     by_test : (yes : Bool) → byte.is_name_byte b ≡ yes → list_all is_set_name_byte (take (prefix_len byte.is_name_byte bytes) bytes) ≡ true
         → list_all is_set_name_byte (take (cond yes (1 + prefix_len byte.is_name_byte bytes) 0) (b ∷ bytes)) ≡ true
-    by_test true e rest = subst (λ n. list_all is_set_name_byte (take n (b ∷ bytes)) ≡ true) (sym (one-more (prefix_len byte.is_name_byte bytes)))
+    by_test true e rest = subst (λ n. list_all is_set_name_byte (take n (b ∷ bytes)) ≡ true)
+        (sym (one-more (prefix_len byte.is_name_byte bytes)))
         (and_from (is_set_name_byte b) (list_all is_set_name_byte (take (prefix_len byte.is_name_byte bytes) bytes)) (goes-on b e) rest)
     by_test false e rest = refl
 
@@ -57,7 +61,8 @@ name-is [] n shape short = absurd shape.letter
 name-is (b ∷ bytes) n shape short =
     let letter : byte.is_letter b ≡ true = shape.letter in
     let long : n ≡ suc (prefix_len byte.is_name_byte bytes) = shape.whole
-    ∙ ap (λ c. cond c (1 + prefix_len byte.is_name_byte bytes) 0) (or_left (byte.is_letter b || is_digit b) _ (or_left (byte.is_letter b) (is_digit b) letter))
+    ∙ ap (λ c. cond c (1 + prefix_len byte.is_name_byte bytes) 0) (or_left (byte.is_letter b || is_digit b) _
+    (or_left (byte.is_letter b) (is_digit b) letter))
     ∙ one-more (prefix_len byte.is_name_byte bytes) in
     let text = take (prefix_len byte.is_name_byte bytes) bytes in
     subst (λ m. is_set_name (take m (b ∷ bytes)) ≡ true) (sym long)
@@ -73,7 +78,8 @@ is_named (sign bytes) = true
 is_named end = true
 is_named bad = true
 
-kind-named : (k : TokenKind) (bytes : List ℕ) (n : ℕ) → IsShape k bytes n → IsTrue (is_short (lexeme_as k (take n bytes))) → is_named (lexeme_as k (take n bytes)) ≡ true
+kind-named : (k : TokenKind) (bytes : List ℕ) (n : ℕ) → IsShape k bytes n → IsTrue (is_short (lexeme_as k (take n bytes)))
+    → is_named (lexeme_as k (take n bytes)) ≡ true
 unfolding is_named
 kind-named kind.Name bytes n shape short = name-is bytes n shape.0 short
 kind-named kind.Word bytes n shape short = refl
@@ -82,7 +88,8 @@ kind-named kind.Sign bytes n shape short = refl
 kind-named kind.End bytes n shape short = refl
 kind-named kind.Bad bytes n shape short = refl
 
-token-named : (text : List ℕ) (from : ℕ) (t : Token) → IsNext text from t → IsTrue (is_short (lexeme_of text t)) → is_named (lexeme_of text t) ≡ true
+token-named : (text : List ℕ) (from : ℕ) (t : Token) → IsNext text from t → IsTrue (is_short (lexeme_of text t))
+    → is_named (lexeme_of text t) ≡ true
 token-named text from t next short = kind-named t.kind (drop t.start text) (t.end - t.start) next.shape short
 
 -- each lexeme that is a name has the form of one
@@ -90,14 +97,16 @@ abbrev Named : List Lexeme → Type 0
 Named [] = Unit {0}
 Named (lexeme ∷ rest) = (is_named lexeme ≡ true) × Named rest
 
-tokens-named : (text : List ℕ) (from : ℕ) (tokens : List Token) → AreTokensFrom text from tokens → IsTrue (list_all (λ token. is_short (lexeme_of text token)) tokens)
+tokens-named : (text : List ℕ) (from : ℕ) (tokens : List Token) → AreTokensFrom text from tokens
+    → IsTrue (list_all (λ token. is_short (lexeme_of text token)) tokens)
     → Named (lexemes_of text tokens)
 tokens-named text from [] are short = absurd are
 tokens-named text from (t ∷ more) are short =
     let parts = and_parts (is_short (lexeme_of text t)) (list_all (λ token. is_short (lexeme_of text token)) more) short in (
       token-named text from t are.0 parts.0,
       elim (cases_Bool (is_last t.kind)) [
-        | inl ends ↦ subst (λ ts. Named (lexemes_of text ts)) (sym (subst (λ b. MatchBool b (more ≡ []) (AreTokensFrom text t.end more)) ends are.1)) tt
+        | inl ends ↦ subst (λ ts. Named (lexemes_of text ts)) (sym (subst (λ b. MatchBool b (more ≡ []) (AreTokensFrom text t.end more))
+            ends are.1)) tt
         | inr goes ↦ tokens-named text t.end more (subst (λ b. MatchBool b (more ≡ []) (AreTokensFrom text t.end more)) goes are.1) parts.1
       ],
     )
@@ -124,7 +133,8 @@ rows-after read (row ∷ rows) rest h =
     let guard = guard-after read row.guard (sign (codes ":") ∷ entry_lexemes read row.entry after_entry) h.1 in
     rows-after read rows rest (entry-after read row.entry after_entry guard.1).1
 
-table-after : (section target read : List ℕ) (rows : List Row) (rest : List Lexeme) → Named (table_lexemes section target read rows rest) → Named rest
+table-after : (section target read : List ℕ) (rows : List Row) (rest : List Lexeme) → Named (table_lexemes section target read rows rest)
+    → Named rest
 unfolding table_lexemes
 table-after section target read rows rest h = (rows-after read rows (sign (codes "}") ∷ rest) h.1.1.1.1.1.1.1).1
 
@@ -134,10 +144,13 @@ tables-after v t rest h =
     let last = table_lexemes (codes "out") v.controlled.name v.output.name t.output rest in
     let design = table_lexemes (codes "sof") v.output.name v.input.name t.design last in
     let required = table_lexemes (codes "req") v.controlled.name v.monitored.name t.required design in
-    table-after (codes "out") v.controlled.name v.output.name t.output rest (table-after (codes "sof") v.output.name v.input.name t.design last
-    (table-after (codes "req") v.controlled.name v.monitored.name t.required design (table-after (codes "in") v.input.name v.monitored.name t.input required h)))
+    table-after (codes "out") v.controlled.name v.output.name t.output rest
+    (table-after (codes "sof") v.output.name v.input.name t.design last
+    (table-after (codes "req") v.controlled.name v.monitored.name t.required design
+    (table-after (codes "in") v.input.name v.monitored.name t.input required h)))
 
-variable-named : (kind : List ℕ) (v : Variable) (rest : List Lexeme) → Named (variable_lexemes kind v rest) → (is_set_name v.name ≡ true) × Named rest
+variable-named : (kind : List ℕ) (v : Variable) (rest : List Lexeme) → Named (variable_lexemes kind v rest) → (is_set_name v.name ≡ true)
+    × Named rest
 unfolding variable_lexemes is_named
 variable-named kind v rest h =
     let last = sign (codes ";") ∷ rest in
@@ -162,7 +175,8 @@ spelled-named bytes f spelled =
     let d = variable-named (codes "output") v.output tables c.1 in
     let e = tables-after v f.rows last d.1 in
     and_from (is_set_name f.name) (list_all is_set_name (names_in f)) all.1.0
-    (and_from (is_set_name v.monitored.name) _ a.0 (and_from (is_set_name v.controlled.name) _ b.0 (and_from (is_set_name v.input.name) _ c.0
+    (and_from (is_set_name v.monitored.name) _ a.0 (and_from (is_set_name v.controlled.name) _ b.0
+    (and_from (is_set_name v.input.name) _ c.0
     (and_from (is_set_name v.output.name) _ d.0 (and_from (is_set_name f.block) true e.1.0 refl)))))
 
 pub read-named : (bytes : List ℕ) (result : Result SmallSet Refusal) → IfOk result (SpellsSmallSet bytes) → IfOk result HasNames

@@ -64,10 +64,13 @@ set-same f S T s t =
       blocks = blocks i;
       sound = is_prop→PathP (λ j. IsSound (period j) (vars j) (memories j) (tables j) (first j) (always j) (step j))
           (λ j. sound-prop (period j) (vars j) (memories j) (tables j) (first j) (always j) (step j)) S.sound T.sound i;
-      checked = is_prop→PathP (λ j. IsChecked (name j) (splits j) (depth j) (vars j) (memories j) (tables j) (first j) (always j) (step j) (blocks j))
-          (λ j. checked_prop (name j) (splits j) (depth j) (vars j) (memories j) (tables j) (first j) (always j) (step j) (blocks j)) S.checked T.checked i;
+      checked = is_prop→PathP (λ j. IsChecked (name j) (splits j) (depth j) (vars j) (memories j) (tables j) (first j) (always j) (step j)
+          (blocks j))
+          (λ j. checked_prop (name j) (splits j) (depth j) (vars j) (memories j) (tables j) (first j) (always j) (step j) (blocks j))
+          S.checked T.checked i;
     }
 
 pub one_set : OneTokens → SpellsOneSet
 one_set one_tokens bytes S T s t =
-    set-same t.small S T (subst (λ (f : SmallSet). IsSetOf f S) (one-small_set one_tokens bytes s.small t.small s.spelled t.spelled) s.is) t.is
+    set-same t.small S T (subst (λ (f : SmallSet). IsSetOf f S) (one-small_set one_tokens bytes s.small t.small s.spelled t.spelled) s.is)
+    t.is

@@ -1,5 +1,6 @@
 -- The set of a small one is sound: what its tables read, that each variable has its table, and an order.
-use Rattle.std.proofs.Common.{◌≡◌, ◌∙◌, sym, ap, subst, refl, ℕ, zero, suc, ◌+◌, ◌<◌, ℤ, pos, Bool, true, false, ◌&&◌, ◌||◌, List, [], ◌∷◌, ◌++◌, length, map, slice_get, Some, arith, ⊎_elim, true≢false}
+use Rattle.std.proofs.Common.{◌≡◌, ◌∙◌, sym, ap, subst, refl, ℕ, zero, suc, ◌+◌, ◌<◌, ℤ, pos, Bool, true, false, ◌&&◌, ◌||◌, List, [], ◌∷◌}
+use Rattle.std.proofs.Common.{◌++◌, length, map, slice_get, Some, arith, ⊎_elim, true≢false}
 use Rattle.std.specs.Prelude.{IsTrue, ◌==◌, filter, nat_le, nat_lt, unsigned_abs, if◌then◌else◌}
 use Rattle.std.specs.List.{Contains, flat_map, list_all, list_any}
 use Rattle.std.proofs.lemmas.Int.{ints}
@@ -58,7 +59,8 @@ one-read read r (suc k, below, is) = absurd (omega (arith, below))
 both-read : (read : ℕ) (xs ys : List Read) → ReadsOnly read xs → ReadsOnly read ys → ReadsOnly read (xs ++ ys)
 both-read read xs ys p q r c = ⊎_elim (λ left. p r left) (λ right. q r right) (Contains-append_cases xs ys r c)
 
-mapped-read : {A B : Type 0} (read : ℕ) (f : B → List Read) (g : A → B) (xs : List A) → ((a : A) → ReadsOnly read (f (g a))) → ReadsOnly read (flat_map f (map g xs))
+mapped-read : {A B : Type 0} (read : ℕ) (f : B → List Read) (g : A → B) (xs : List A) → ((a : A) → ReadsOnly read (f (g a)))
+    → ReadsOnly read (flat_map f (map g xs))
 mapped-read read f g [] h = none-read read
 mapped-read read f g (x ∷ xs) h = both-read read (f (g x)) (flat_map f (map g xs)) (h x) (mapped-read read f g xs h)
 
@@ -68,7 +70,8 @@ term-read read entry.Read = subst (ReadsOnly read) (sym (reads-rolled _ (tl.Now 
 
 cond-read : (read : ℕ) (g : Guard) → ReadsOnly read (cond_reads (cond_of read g))
 cond-read read Always = subst (ReadsOnly read) (sym (cond_reads-rolled _ cl.Yes cond.rolls-Yes)) (none-read read)
-cond-read read (Compare rel b) = subst (ReadsOnly read) (sym (cond_reads-rolled _ (cl.Compare rel (Now read) (Num _)) (cond.rolls-Compare rel (Now read) (Num _))))
+cond-read read (Compare rel b) = subst (ReadsOnly read) (sym (cond_reads-rolled _ (cl.Compare rel (Now read) (Num _))
+    (cond.rolls-Compare rel (Now read) (Num _))))
     (both-read read (term_reads (Now read)) (term_reads (Num _)) (term-read read entry.Read) (term-read read (entry.Number b)))
 
 -- a table reads its variable alone
@@ -94,14 +97,18 @@ kept-read : (b : Bool) (read : ℕ) (c : Cell) (more : List Cell) → ReadsOnly 
 kept-read true read c more here rest = both-read read (cell_reads c) (flat_map cell_reads more) here rest
 kept-read false read c more here rest = rest
 
-cells-read : (n target read x : ℕ) (rows : List Row) → ReadsOnly read (flat_map cell_reads (filter (λ c. c.target == x) (cells_from n target read rows)))
+cells-read : (n target read x : ℕ) (rows : List Row) → ReadsOnly read (flat_map cell_reads
+    (filter (λ c. c.target == x) (cells_from n target read rows)))
 cells-read n target read x [] = none-read read
 cells-read n target read x (row ∷ rows) =
-    kept-read (target == x) read (cell_of n target read row) (filter (λ c. c.target == x) (cells_from (n + 1) target read rows)) (row-read n target read row)
+    kept-read (target == x) read (cell_of n target read row) (filter (λ c. c.target == x) (cells_from (n + 1) target read rows))
+    (row-read n target read row)
     (cells-read (n + 1) target read x rows)
 
-own-reads : (s : Section) (target read x : ℕ) (rows : List Row) → ReadsOnly read (flat_map cell_reads (cells_for x (table_of s target read rows).grid))
-own-reads s target read x rows = subst (λ cs. ReadsOnly read (flat_map cell_reads (filter (λ c. c.target == x) cs))) (sym (cells-are 0 target read rows))
+own-reads : (s : Section) (target read x : ℕ) (rows : List Row) → ReadsOnly read
+    (flat_map cell_reads (cells_for x (table_of s target read rows).grid))
+own-reads s target read x rows = subst (λ cs. ReadsOnly read (flat_map cell_reads (filter (λ c. c.target == x) cs)))
+    (sym (cells-are 0 target read rows))
     (cells-read 0 target read x rows)
 
 pub inits-good : (v : Variables) → AreGoodVariables v → (x : ℕ) (u : Var) → slice_get (vars_of v) x ≡ Some u → IsWithin u.range u.init
@@ -120,10 +127,12 @@ places-right v (suc (suc (suc zero))) u e = subst (λ (w : Var). w.place ≡ pla
 places-right v (suc (suc (suc (suc x)))) u e = absurd (none-some u e)
 
 module _ (v : Variables) (t : TableRows) where
-  allowed : (s : Section) (target read : ℕ) (rows : List Row) (u : Table) (q : Read) → table_of s target read rows ≡ u → Contains (grid_reads u.grid) q
+  allowed : (s : Section) (target read : ℕ) (rows : List Row) (u : Table) (q : Read) → table_of s target read rows ≡ u
+      → Contains (grid_reads u.grid) q
       → IsTrue (may_read (vars_of v) [] s (at_now read)) → IsTrue (may_read (vars_of v) [] u.section q)
   allowed s target read rows u q is c may = subst (λ (w : Table). IsTrue (may_read (vars_of v) [] w.section q)) is
-      (subst (λ z. IsTrue (may_read (vars_of v) [] s z)) (sym (table-reads s target read rows q (subst (λ (w : Table). Contains (grid_reads w.grid) q) (sym is) c))) may)
+      (subst (λ z. IsTrue (may_read (vars_of v) [] s z)) (sym (table-reads s target read rows q
+      (subst (λ (w : Table). Contains (grid_reads w.grid) q) (sym is) c))) may)
 
   reads-allowed : (k : ℕ) (table : Table) (r : Read) → slice_get (tables_of t) k ≡ Some table → Contains (grid_reads table.grid) r
       → IsTrue (may_read (vars_of v) [] table.section r)
@@ -220,7 +229,8 @@ module _ (v : Variables) (t : TableRows) where
   rank-falls (of_age m) q c now = absurd (omega (arith, c.1))
   rank-falls (at_now x) q c now = ⊎_elim
       (λ by_req. let at = read-where ((1 == x) || false) (own x (table_of section.Req 1 0 t.required)) q by_req in
-      falls x q 0 (own-reads section.Req 1 0 x t.required q at.1) (or_left (1 == x) (3 == x) (⊎_elim (λ is. is) (λ never. absurd (true≢false (sym never))) (or_cases (1 == x) false at.0))) refl)
+      falls x q 0 (own-reads section.Req 1 0 x t.required q at.1) (or_left (1 == x) (3 == x)
+      (⊎_elim (λ is. is) (λ never. absurd (true≢false (sym never))) (or_cases (1 == x) false at.0))) refl)
       (λ rest. ⊎_elim
       (λ by_sof. let at = read-where (false || (3 == x)) (own x (table_of section.Sof 3 2 t.design)) q by_sof in
       falls x q 2 (own-reads section.Sof 3 2 x t.design q at.1) (or_right (1 == x) (3 == x) at.0) refl)
@@ -229,7 +239,8 @@ module _ (v : Variables) (t : TableRows) where
       (Contains-append_cases (if ((1 == x) || false) then own x (table_of section.Req 1 0 t.required) else [])
       ((if (false || (3 == x)) then own x (table_of section.Sof 3 2 t.design) else []) ++ []) q c)
     where
-      falls : (x : ℕ) (q : Read) (read : ℕ) → q ≡ at_now read → ((1 == x) || (3 == x)) ≡ true → rank (at_now read) ≡ 0 → rank q < rank (at_now x)
+      falls : (x : ℕ) (q : Read) (read : ℕ) → q ≡ at_now read → ((1 == x) || (3 == x)) ≡ true → rank (at_now read) ≡ 0
+          → rank q < rank (at_now x)
       falls x q read is one low = subst (λ z. rank z < rank (at_now x)) (sym is)
           (subst (λ n. n < rank (at_now x)) (sym low) (subst (λ b. 0 < (if b then 1 else 0)) (sym one) (omega arith)))
 
@@ -261,14 +272,16 @@ module _ (v : Variables) (good : AreGoodVariables v) where
   cond-sized : (read : ℕ) (g : Guard) → IsTrue (is_short_guard g) → IsTrue (is_sized (vars_of v) [] (cond_of read g))
   cond-sized read Always short = sized-Yes (vars_of v) []
   cond-sized read (Compare rel b) short = sized-Compare (vars_of v) [] rel (Now read) (Num (bound_value b))
-      ∙ and_from (is_sized_term (vars_of v) [] (Now read)) (is_sized_term (vars_of v) [] (Num (bound_value b))) (now-small read) (number-small (vars_of v) b short)
+      ∙ and_from (is_sized_term (vars_of v) [] (Now read)) (is_sized_term (vars_of v) [] (Num (bound_value b))) (now-small read)
+      (number-small (vars_of v) b short)
 
   conds-sized : (read : ℕ) (rows : List Row) → IsTrue (list_all (λ row. is_short_guard row.guard) rows)
       → IsTrue (list_all (is_sized (vars_of v) []) (map (λ row. cond_of read row.guard) rows))
   conds-sized read [] short = refl
   conds-sized read (row ∷ rows) short =
       let parts = and_parts (is_short_guard row.guard) (list_all (λ r. is_short_guard r.guard) rows) short in
-      and_from (is_sized (vars_of v) [] (cond_of read row.guard)) (list_all (is_sized (vars_of v) []) (map (λ r. cond_of read r.guard) rows))
+      and_from (is_sized (vars_of v) [] (cond_of read row.guard)) (list_all (is_sized (vars_of v) [])
+      (map (λ r. cond_of read r.guard) rows))
       (cond-sized read row.guard parts.0) (conds-sized read rows parts.1)
 
   terms-sized : (read : ℕ) (rows : List Row) → IsTrue (list_all (λ row. is_short_entry row.entry) rows)
@@ -278,25 +291,32 @@ module _ (v : Variables) (good : AreGoodVariables v) where
       let parts = and_parts (is_short_entry row.entry) (list_all (λ r. is_short_entry r.entry) rows) short in
       and_from (list_all (is_sized_term (vars_of v) []) (term_of read row.entry ∷ []))
       (list_all (list_all (is_sized_term (vars_of v) [])) (map (λ r. term_of read r.entry ∷ []) rows))
-      (and_from (is_sized_term (vars_of v) [] (term_of read row.entry)) true (term-sized read row.entry parts.0) refl) (terms-sized read rows parts.1)
+      (and_from (is_sized_term (vars_of v) [] (term_of read row.entry)) true (term-sized read row.entry parts.0) refl)
+      (terms-sized read rows parts.1)
 
-  table-sized : (s : Section) (target read : ℕ) (rows : List Row) → HaveShortNumbers rows → IsTrue (is_sized_grid (vars_of v) [] (table_of s target read rows).grid)
+  table-sized : (s : Section) (target read : ℕ) (rows : List Row) → HaveShortNumbers rows
+      → IsTrue (is_sized_grid (vars_of v) [] (table_of s target read rows).grid)
   table-sized s target read rows short =
       let yes = list_all (is_sized (vars_of v) []) (cond.Yes ∷ []) in
       let conds = list_all (is_sized (vars_of v) []) (map (λ row. cond_of read row.guard) rows) in
       and_from (yes && conds) (list_all (list_all (is_sized_term (vars_of v) [])) (map (λ row. term_of read row.entry ∷ []) rows))
-      (and_from yes conds (and_from (is_sized (vars_of v) [] cond.Yes) true (sized-Yes (vars_of v) []) refl) (conds-sized read rows short.0))
+      (and_from yes conds (and_from (is_sized (vars_of v) [] cond.Yes) true (sized-Yes (vars_of v) []) refl)
+      (conds-sized read rows short.0))
       (terms-sized read rows short.1)
 
   tables-sized : (t : TableRows) → AreShort t → IsTrue (list_all (λ (table : Table). is_sized_grid (vars_of v) [] table.grid) (tables_of t))
   tables-sized t short =
       and_from (is_sized_grid (vars_of v) [] (table_of section.In 2 0 t.input).grid) _ (table-sized section.In 2 0 t.input short.input)
-      (and_from (is_sized_grid (vars_of v) [] (table_of section.Req 1 0 t.required).grid) _ (table-sized section.Req 1 0 t.required short.required)
-      (and_from (is_sized_grid (vars_of v) [] (table_of section.Sof 3 2 t.design).grid) _ (table-sized section.Sof 3 2 t.design short.design)
-      (and_from (is_sized_grid (vars_of v) [] (table_of section.Out 1 3 t.output).grid) true (table-sized section.Out 1 3 t.output short.output) refl)))
+      (and_from (is_sized_grid (vars_of v) [] (table_of section.Req 1 0 t.required).grid) _
+      (table-sized section.Req 1 0 t.required short.required)
+      (and_from (is_sized_grid (vars_of v) [] (table_of section.Sof 3 2 t.design).grid) _
+      (table-sized section.Sof 3 2 t.design short.design)
+      (and_from (is_sized_grid (vars_of v) [] (table_of section.Out 1 3 t.output).grid) true
+      (table-sized section.Out 1 3 t.output short.output) refl)))
 
 -- each row has the one entry for the one column
-single-entries : (read : ℕ) (rows : List Row) → list_all (λ entries. length entries == 1) (map (λ row. term_of read row.entry ∷ []) rows) ≡ true
+single-entries : (read : ℕ) (rows : List Row) → list_all (λ entries. length entries == 1) (map (λ row. term_of read row.entry ∷ []) rows)
+    ≡ true
 single-entries read [] = refl
 single-entries read (row ∷ rows) = single-entries read rows
 
@@ -306,9 +326,11 @@ table-shaped s target read rows some =
     let terms = map (λ r. term_of read r.entry ∷ []) rows in
     let filled : nat_lt 0 (length conds) ≡ true = grind (arith, some.0, length-map rows (λ r. cond_of read r.guard)) in
     let same : (length terms == length conds) ≡ true
-    = (Decides-eqb (length terms) (length conds)).1 (length-map rows (λ r. term_of read r.entry ∷ []) ∙ sym (length-map rows (λ r. cond_of read r.guard))) in
+    = (Decides-eqb (length terms) (length conds)).1 (length-map rows (λ r. term_of read r.entry ∷ [])
+    ∙ sym (length-map rows (λ r. cond_of read r.guard))) in
     and_from (nat_lt 0 (length conds) && nat_lt 0 1 && (length terms == length conds)) (list_all (λ entries. length entries == 1) terms)
-    (and_from (nat_lt 0 (length conds) && nat_lt 0 1) (length terms == length conds) (and_from (nat_lt 0 (length conds)) (nat_lt 0 1) filled refl) same)
+    (and_from (nat_lt 0 (length conds) && nat_lt 0 1) (length terms == length conds)
+    (and_from (nat_lt 0 (length conds)) (nat_lt 0 1) filled refl) same)
     (single-entries read rows)
 
 tables-shaped : (t : TableRows) → HaveRows t → IsTrue (list_all (λ (table : Table). is_shaped table.grid) (tables_of t))
@@ -319,7 +341,8 @@ tables-shaped t some =
     (and_from (is_shaped (table_of section.Out 1 3 t.output).grid) true (table-shaped section.Out 1 3 t.output some.output) refl)))
 
 -- the set of a good small one is sound
-pub sound-of : (f : SmallSet) → IsGoodSmallSet f → AreShort f.rows → IsSound (pos f.period) (vars_of f.variables) [] (tables_of f.rows) [] [] []
+pub sound-of : (f : SmallSet) → IsGoodSmallSet f → AreShort f.rows → IsSound (pos f.period) (vars_of f.variables) [] (tables_of f.rows) []
+    [] []
 sound-of f good short = record {
   few_vars = omega arith;
   few_memories = omega arith;
@@ -345,7 +368,8 @@ sound-of f good short = record {
 }
 
 -- the same of its parts as they were made
-pub sound-at : (f : SmallSet) → IsGoodSmallSet f → AreShort f.rows → (period : ℤ) (vars : List Var) (memories : List Memory) (tables : List Table) (first always step : List Cond)
+pub sound-at : (f : SmallSet) → IsGoodSmallSet f → AreShort f.rows → (period : ℤ) (vars : List Var) (memories : List Memory)
+    (tables : List Table) (first always step : List Cond)
     → period ≡ pos f.period → vars ≡ vars_of f.variables → memories ≡ [] → tables ≡ tables_of f.rows → first ≡ [] → always ≡ [] → step ≡ []
     → IsSound period vars memories tables first always step
 sound-at f good short period vars memories tables first always step p v m t a b c =

@@ -4,7 +4,9 @@ use Rattle.std.specs.Prelude.{IsTrue, nat_le, if◌then◌else◌}
 use Rattle.std.specs.List.{list_all}
 use Rattle.std.proofs.lemmas.Bool.{and_parts, and_from}
 use Rattle.std.proofs.lemmas.List.Folds.{list_all-map}
-use Rattle.ft_small.specs.meaning.SmallSet.{SpellsSmallSet, bound_lexemes, guard_lexemes, entry_lexemes, rows_lexemes, table_lexemes, variable_lexemes, variables_lexemes, tables_lexemes, head_lexemes, block_lexemes, small_set_lexemes}
+use Rattle.ft_small.specs.meaning.SmallSet.{SpellsSmallSet, bound_lexemes, guard_lexemes, entry_lexemes, rows_lexemes, table_lexemes}
+use Rattle.ft_small.specs.meaning.SmallSet.{variable_lexemes, variables_lexemes, tables_lexemes, head_lexemes, block_lexemes}
+use Rattle.ft_small.specs.meaning.SmallSet.{small_set_lexemes}
 use Rattle.ft_small.specs.steps.Short.{AreShort, HaveShortNumbers, is_short_bound, is_short_guard, is_short_entry}
 use Rattle.ft_small.specs.meaning.Lexeme.{Lexeme, word, number, sign, end, is_short, lexeme_of}
 use Rattle.ft_small.specs.declared.small_set.Bound.{Bound}
@@ -31,10 +33,11 @@ size-short : (size : ℕ) → nat_le size 1000000000 ≡ true → nat_le size 42
 size-short size h = grind (arith, h)
 
 bound-short : (b : Bound) (rest : List Lexeme) → Short (bound_lexemes b rest) → IsTrue (is_short_bound b) × Short rest
-bound-short b rest = elim b.minus as (λ m. Short (if m then sign (codes "-") ∷ number b.size ∷ rest else number b.size ∷ rest) → IsTrue (is_short_bound b) × Short rest) [
-  | true ↦ λ h. (size-short b.size h.1.0, h.1.1)
-  | false ↦ λ h. (size-short b.size h.0, h.1)
-]
+bound-short b rest = elim b.minus as (λ m. Short (if m then sign (codes "-") ∷ number b.size ∷ rest else number b.size ∷ rest)
+    → IsTrue (is_short_bound b) × Short rest) [
+      | true ↦ λ h. (size-short b.size h.1.0, h.1.1)
+      | false ↦ λ h. (size-short b.size h.0, h.1)
+    ]
 
 guard-short : (read : List ℕ) (g : Guard) (rest : List Lexeme) → Short (guard_lexemes read g rest) → IsTrue (is_short_guard g) × Short rest
 guard-short read Always rest h = (refl, h.1)
@@ -44,7 +47,8 @@ entry-short : (read : List ℕ) (e : Entry) (rest : List Lexeme) → Short (entr
 entry-short read (Number b) rest h = bound-short b rest h
 entry-short read Read rest h = (refl, h.1)
 
-rows-short : (read : List ℕ) (rows : List Row) (rest : List Lexeme) → Short (rows_lexemes read rows rest) → HaveShortNumbers rows × Short rest
+rows-short : (read : List ℕ) (rows : List Row) (rest : List Lexeme) → Short (rows_lexemes read rows rest) → HaveShortNumbers rows
+    × Short rest
 unfolding rows_lexemes
 rows-short read [] rest h = ((refl, refl), h)
 rows-short read (row ∷ rows) rest h =
@@ -59,16 +63,19 @@ rows-short read (row ∷ rows) rest h =
       more.1,
     )
 
-table-short : (section target read : List ℕ) (rows : List Row) (rest : List Lexeme) → Short (table_lexemes section target read rows rest) → HaveShortNumbers rows × Short rest
+table-short : (section target read : List ℕ) (rows : List Row) (rest : List Lexeme) → Short (table_lexemes section target read rows rest)
+    → HaveShortNumbers rows × Short rest
 unfolding table_lexemes
-table-short section target read rows rest h = let more = rows-short read rows (sign (codes "}") ∷ rest) h.1.1.1.1.1.1.1 in (more.0, more.1.1)
+table-short section target read rows rest h = let more = rows-short read rows (sign (codes "}") ∷ rest) h.1.1.1.1.1.1.1 in
+    (more.0, more.1.1)
 
 tables-short : (v : Variables) (t : TableRows) (rest : List Lexeme) → Short (tables_lexemes v t rest) → AreShort t
 unfolding tables_lexemes
 tables-short v t rest h =
     let last = table_lexemes (codes "out") v.controlled.name v.output.name t.output rest in
     let design = table_lexemes (codes "sof") v.output.name v.input.name t.design last in
-    let a = table-short (codes "in") v.input.name v.monitored.name t.input (table_lexemes (codes "req") v.controlled.name v.monitored.name t.required design) h in
+    let a = table-short (codes "in") v.input.name v.monitored.name t.input
+    (table_lexemes (codes "req") v.controlled.name v.monitored.name t.required design) h in
     let b = table-short (codes "req") v.controlled.name v.monitored.name t.required design a.1 in
     let c = table-short (codes "sof") v.output.name v.input.name t.design last b.1 in
     let d = table-short (codes "out") v.controlled.name v.output.name t.output rest c.1 in
@@ -102,4 +109,5 @@ spelled-short bytes f spelled =
     let last = block_lexemes f.block f.variables.controlled.name f.variables.output.name (end ∷ []) in
     let tables = tables_lexemes f.variables f.rows last in
     tables-short f.variables f.rows last
-    (variables-after f.variables tables (head-after f.name f.period (variables_lexemes f.variables tables) (each-short (small_set_lexemes f) all)))
+    (variables-after f.variables tables (head-after f.name f.period (variables_lexemes f.variables tables)
+    (each-short (small_set_lexemes f) all)))

@@ -6,7 +6,9 @@ use Rattle.ft_core.specs.declared.term.Rel.{Rel}
 use Rattle.ft_core.specs.declared.term.Rel.TheVariants as rel
 use Rattle.ft_small.specs.meaning.Lexeme.{Lexeme, word, name, number, sign, end}
 use Rattle.ft_small.specs.steps.Cursor.{Starts}
-use Rattle.ft_small.specs.meaning.SmallSet.{bound_lexemes, rel_sign, guard_lexemes, entry_lexemes, row_lexemes, rows_lexemes, table_lexemes, variable_lexemes, head_lexemes, block_lexemes, variables_lexemes, tables_lexemes, small_set_lexemes}
+use Rattle.ft_small.specs.meaning.SmallSet.{bound_lexemes, rel_sign, guard_lexemes, entry_lexemes, row_lexemes, rows_lexemes, table_lexemes}
+use Rattle.ft_small.specs.meaning.SmallSet.{variable_lexemes, head_lexemes, block_lexemes, variables_lexemes, tables_lexemes}
+use Rattle.ft_small.specs.meaning.SmallSet.{small_set_lexemes}
 use Rattle.ft_small.specs.declared.small_set.Bound.{Bound}
 use Rattle.ft_small.specs.declared.small_set.Guard.{Guard}
 use Rattle.ft_small.specs.declared.small_set.Guard.TheVariants.{Always, Compare}
@@ -20,7 +22,8 @@ use Rattle.ft_small.specs.declared.small_set.SmallSet.{SmallSet}
 
 -- a number, by whether a minus stands before it
 bound-at : (m n : Bool) (s t : ℕ) (q r : List Lexeme)
-    → cond m (sign (codes "-") ∷ number s ∷ q) (number s ∷ q) ≡ cond n (sign (codes "-") ∷ number t ∷ r) (number t ∷ r) → (m ≡ n) × (s ≡ t) × (q ≡ r)
+    → cond m (sign (codes "-") ∷ number s ∷ q) (number s ∷ q) ≡ cond n (sign (codes "-") ∷ number t ∷ r) (number t ∷ r) → (m ≡ n) × (s ≡ t)
+    × (q ≡ r)
 bound-at true true s t q r e = (refl, cc, cc)
 bound-at true false s t q r e = cc
 bound-at false true s t q r e = cc
@@ -77,7 +80,8 @@ pub row-same : (read : List ℕ) (x y : Row) (q r : List Lexeme) → row_lexemes
 row-same read x y q r e =
     let entry_x = entry_lexemes read x.entry (sign (codes ";") ∷ q) in
     let entry_y = entry_lexemes read y.entry (sign (codes ";") ∷ r) in
-    let from_guard : guard_lexemes read x.guard (sign (codes ":") ∷ entry_x) ≡ guard_lexemes read y.guard (sign (codes ":") ∷ entry_y) = cc in
+    let from_guard : guard_lexemes read x.guard (sign (codes ":") ∷ entry_x) ≡ guard_lexemes read y.guard (sign (codes ":") ∷ entry_y) =
+    cc in
     let guards = guard-same read x.guard y.guard (sign (codes ":") ∷ entry_x) (sign (codes ":") ∷ entry_y) from_guard in
     let after = guards.1 in
     let from_entry : entry_x ≡ entry_y = cc in
@@ -109,7 +113,8 @@ row-next read (x ∷ xs) (y ∷ ys) left rest e starts = row-next read xs ys lef
 
 -- where no row is next, the rows are all found
 pub rows-all : (read : List ℕ) (found rows : List Row) (left rest : List Lexeme)
-    → rows_lexemes read found left ≡ rows_lexemes read rows (sign (codes "}") ∷ rest) → (Starts (word (codes "row")) left → ⊥) → left ≡ sign (codes "}") ∷ rest
+    → rows_lexemes read found left ≡ rows_lexemes read rows (sign (codes "}") ∷ rest) → (Starts (word (codes "row")) left → ⊥) → left
+    ≡ sign (codes "}") ∷ rest
 unfolding rows_lexemes
 rows-all read [] [] left rest e none = e
 rows-all read [] (y ∷ ys) left rest e none = absurd (none (subst (Starts (word (codes "row"))) (sym e) refl))
@@ -122,12 +127,15 @@ unfolding table_lexemes
 table-same section target read xs ys q r e = rows-same read xs ys q r cc
 
 -- what stands after a table that was read is what stands after the one that is spelled
-pub table-after : (section target read other_target other_read : List ℕ) (xs ys : List Row) (whole q r : List Lexeme) → target ≡ other_target → read ≡ other_read
+pub table-after : (section target read other_target other_read : List ℕ) (xs ys : List Row) (whole q r : List Lexeme) → target
+    ≡ other_target → read ≡ other_read
     → whole ≡ table_lexemes section target read xs q → whole ≡ table_lexemes section other_target other_read ys r → q ≡ r
 table-after section target read other_target other_read xs ys whole q r targets reads found is =
-    (table-same section other_target other_read xs ys q r ((λ i. table_lexemes section (sym targets i) (sym reads i) xs q) ∙ sym found ∙ is)).1
+    (table-same section other_target other_read xs ys q r ((λ i. table_lexemes section (sym targets i) (sym reads i) xs q) ∙ sym found
+    ∙ is)).1
 
-pub variable-same : (kind : List ℕ) (v w : Variable) (q r : List Lexeme) → variable_lexemes kind v q ≡ variable_lexemes kind w r → (v ≡ w) × (q ≡ r)
+pub variable-same : (kind : List ℕ) (v w : Variable) (q r : List Lexeme) → variable_lexemes kind v q ≡ variable_lexemes kind w r → (v ≡ w)
+    × (q ≡ r)
 unfolding variable_lexemes
 variable-same kind v w q r e =
     let init_v = bound_lexemes v.init (sign (codes ";") ∷ q) in
@@ -147,14 +155,17 @@ variable-same kind v w q r e =
     (λ i. record { name = names i; lo = lo.0 i; hi = hi.0 i; init = init.0 i }, cc)
 
 -- the same after a variable
-pub variable-after : (kind : List ℕ) (v w : Variable) (whole q r : List Lexeme) → whole ≡ variable_lexemes kind v q → whole ≡ variable_lexemes kind w r → q ≡ r
+pub variable-after : (kind : List ℕ) (v w : Variable) (whole q r : List Lexeme) → whole ≡ variable_lexemes kind v q → whole
+    ≡ variable_lexemes kind w r → q ≡ r
 variable-after kind v w whole q r read is = (variable-same kind v w q r (sym read ∙ is)).1
 
-pub head-same : (set other : List ℕ) (m n : ℕ) (q r : List Lexeme) → head_lexemes set m q ≡ head_lexemes other n r → (set ≡ other) × (m ≡ n) × (q ≡ r)
+pub head-same : (set other : List ℕ) (m n : ℕ) (q r : List Lexeme) → head_lexemes set m q ≡ head_lexemes other n r → (set ≡ other) × (m ≡ n)
+    × (q ≡ r)
 unfolding head_lexemes
 head-same set other m n q r e = (cc, cc, cc)
 
-pub block-same : (b c controlled output : List ℕ) (q r : List Lexeme) → block_lexemes b controlled output q ≡ block_lexemes c controlled output r → (b ≡ c) × (q ≡ r)
+pub block-same : (b c controlled output : List ℕ) (q r : List Lexeme) → block_lexemes b controlled output q
+    ≡ block_lexemes c controlled output r → (b ≡ c) × (q ≡ r)
 unfolding block_lexemes
 block-same b c controlled output q r e = (cc, cc)
 
@@ -187,7 +198,8 @@ small_set-same f g e =
     (λ i. record { name = head.0 i; period = head.1 i; variables = variables.0 i; rows = rows.0 i; block = block.0 i })
 
 -- what stands after each part of a set that is read, where the whole spells this set
-module _ (f : SmallSet) (set : List ℕ) (period : ℕ) (whole after_head : List Lexeme) (is : whole ≡ small_set_lexemes f) (head : whole ≡ head_lexemes set period after_head) where
+module _ (f : SmallSet) (set : List ℕ) (period : ℕ) (whole after_head : List Lexeme) (is : whole ≡ small_set_lexemes f)
+    (head : whole ≡ head_lexemes set period after_head) where
   pub after-head : after_head ≡ variables_lexemes f.variables (tables_lexemes f.variables f.rows
       (block_lexemes f.block f.variables.controlled.name f.variables.output.name (end ∷ [])))
   after-head = (head-same set f.name period f.period after_head _ (sym head ∙ is)).2
@@ -198,12 +210,15 @@ module _ (f : SmallSet) (set : List ℕ) (period : ℕ) (whole after_head : List
     both = variables-same v f.variables after_variables _ (sym read ∙ after-head)
 
     pub after-variables : after_variables ≡ tables_lexemes v f.rows (block_lexemes f.block v.controlled.name v.output.name (end ∷ []))
-    after-variables = both.1 ∙ ap (λ (u : Variables). tables_lexemes u f.rows (block_lexemes f.block u.controlled.name u.output.name (end ∷ []))) (sym both.0)
+    after-variables = both.1 ∙ ap (λ (u : Variables). tables_lexemes u f.rows
+        (block_lexemes f.block u.controlled.name u.output.name (end ∷ []))) (sym both.0)
 
-    module _ (t : TableRows) (controlled output : List ℕ) (after_tables : List Lexeme) (c : controlled ≡ v.controlled.name) (o : output ≡ v.output.name)
+    module _ (t : TableRows) (controlled output : List ℕ) (after_tables : List Lexeme) (c : controlled ≡ v.controlled.name)
+        (o : output ≡ v.output.name)
         (tables : after_variables ≡ tables_lexemes v t after_tables) where
       pub after-tables : after_tables ≡ block_lexemes f.block controlled output (end ∷ [])
-      after-tables = (tables-same v t f.rows after_tables _ (sym tables ∙ after-variables)).1 ∙ (λ i. block_lexemes f.block (sym c i) (sym o i) (end ∷ []))
+      after-tables = (tables-same v t f.rows after_tables _ (sym tables ∙ after-variables)).1
+          ∙ (λ i. block_lexemes f.block (sym c i) (sym o i) (end ∷ []))
 
       pub after-block : (block : List ℕ) (rest : List Lexeme) → after_tables ≡ block_lexemes block controlled output rest → rest ≡ end ∷ []
       after-block block rest e = (block-same block f.block controlled output rest _ (sym e ∙ after-tables)).1

@@ -1,5 +1,6 @@
 -- Where the tests on a small set pass, its tables are proper, and its design refines its requirement or differs from it.
-use Rattle.std.proofs.Common.{◌≡◌, ◌∙◌, sym, ap, subst, refl, ℕ, zero, suc, ◌<◌, ℤ, true, cond, List, [], length, slice_get, Some, arith, true≢false, append-nil}
+use Rattle.std.proofs.Common.{◌≡◌, ◌∙◌, sym, ap, subst, refl, ℕ, zero, suc, ◌<◌, ℤ, true, cond, List, [], length, slice_get, Some, arith}
+use Rattle.std.proofs.Common.{true≢false, append-nil}
 use Rattle.std.specs.Prelude.{IsTrue}
 use Rattle.std.specs.List.{list_any, flat_map}
 use Rattle.std.specs.Option.{option_and_then}
@@ -46,12 +47,16 @@ module _ (f : SmallSet) (S : Tables) (is : IsSetOf f S) where
   is_declared x u v e there = same_Some u v (sym (declared x u e) ∙ there)
 
   -- a table is proper where its rows are
-  proper-table : (s : Section) (target read : ℕ) (rows : List Row) (t r : Variable) (k l : VarKind) → slice_get (vars_of f.variables) target ≡ Some (var_of k t)
-      → slice_get (vars_of f.variables) read ≡ Some (var_of l r) → IsProperOn rows (bounds_of r) (bounds_of t) → IsProper S (table_of s target read rows)
+  proper-table : (s : Section) (target read : ℕ) (rows : List Row) (t r : Variable) (k l : VarKind) → slice_get (vars_of f.variables) target
+      ≡ Some (var_of k t)
+      → slice_get (vars_of f.variables) read ≡ Some (var_of l r) → IsProperOn rows (bounds_of r) (bounds_of t)
+      → IsProper S (table_of s target read rows)
   proper-table s target read rows t r k l there_t there_r on V local x v there def =
       let same : target ≡ x = eqb-true target x def in
-      let one = one-result rows (bounds_of t) (V.now read) (on (V.now read) (local.now read (var_of l r) (declared read (var_of l r) there_r))) in
-      let range : bounds_of t ≡ v.range = ap (λ (u : Var). u.range) (is_declared target (var_of k t) v there_t (subst (λ y. slice_get S.vars y ≡ Some v) (sym same) there)) in
+      let one = one-result rows (bounds_of t) (V.now read) (on (V.now read)
+      (local.now read (var_of l r) (declared read (var_of l r) there_r))) in
+      let range : bounds_of t ≡ v.range = ap (λ (u : Var). u.range) (is_declared target (var_of k t) v there_t
+      (subst (λ y. slice_get S.vars y ≡ Some v) (sym same) there)) in
       subst (λ y. HasOneCell V (cells_for y (table_of s target read rows).grid) v.range) same
       (one-cell V (cells_for target (table_of s target read rows).grid) v.range one.given (values-held V read s target rows ∙ one.values)
       (subst (λ b. IsWithin b one.given) range one.in_range))
@@ -93,8 +98,10 @@ module _ (f : SmallSet) (S : Tables) (is : IsSetOf f S) where
       at (suc (suc (suc (suc k)))) e = absurd (none-some table e)
 
   -- what a table gives a variable is the result of its rows
-  given-by : (s : Section) (target read : ℕ) (rows : List Row) (t r : Variable) → cells_of S s target ≡ cells_for target (table_of s target read rows).grid
-      → IsProperOn rows (bounds_of r) (bounds_of t) → (V : View) (y : ℤ) → IsWithin (bounds_of r) (V.now read) → IsTrue (defined S s V target y)
+  given-by : (s : Section) (target read : ℕ) (rows : List Row) (t r : Variable) → cells_of S s target
+      ≡ cells_for target (table_of s target read rows).grid
+      → IsProperOn rows (bounds_of r) (bounds_of t) → (V : View) (y : ℤ) → IsWithin (bounds_of r) (V.now read)
+      → IsTrue (defined S s V target y)
       → result_at rows (V.now read) ≡ Some y
   given-by s target read rows t r are on V y within def =
       let one = one-result rows (bounds_of t) (V.now read) (on (V.now read) within) in
@@ -135,7 +142,8 @@ module _ (f : SmallSet) (S : Tables) (is : IsSetOf f S) where
       at zero there = absurd (true≢false (sym (ap (controlled 0) (same_Some (var_of Mon f.variables.monitored) v there) ∙ e.1)))
       at (suc zero) there = refl
       at (suc (suc zero)) there = absurd (true≢false (sym (ap (controlled 0) (same_Some (var_of Input f.variables.input) v there) ∙ e.1)))
-      at (suc (suc (suc zero))) there = absurd (true≢false (sym (ap (controlled 0) (same_Some (var_of Output f.variables.output) v there) ∙ e.1)))
+      at (suc (suc (suc zero))) there = absurd (true≢false (sym (ap (controlled 0) (same_Some (var_of Output f.variables.output) v there)
+          ∙ e.1)))
       at (suc (suc (suc (suc y)))) there = absurd (none-some v there)
 
 module _ (f : SmallSet) (S : Tables) (is : IsSetOf f S) (proper : AreProper f) where
@@ -167,8 +175,10 @@ module _ (f : SmallSet) (S : Tables) (is : IsSetOf f S) (proper : AreProper f) w
 
     required-is : required_at f.rows x_of ≡ Some (side_reading S side.Req r t 1)
     required-is = subst (λ z. result_at f.rows.required z ≡ Some (side_reading S side.Req r t 1)) same-x
-        (given-by f S is section.Req 1 0 f.rows.required f.variables.controlled f.variables.monitored (required-cells f S is) (proper section.Req)
-        (look S (side_reading S side.Req r) t) (side_reading S side.Req r t 1) (subst (IsWithin (bounds_of f.variables.monitored)) (sym same-x) x-within)
+        (given-by f S is section.Req 1 0 f.rows.required f.variables.controlled f.variables.monitored (required-cells f S is)
+        (proper section.Req)
+        (look S (side_reading S side.Req r) t) (side_reading S side.Req r t 1)
+        (subst (IsWithin (bounds_of f.variables.monitored)) (sym same-x) x-within)
         (runs.required.is.follows t long_r 1 _ (is-con f S is (defined_kinds section.Req) refl)))
 
     input-is : result_at f.rows.input x_of ≡ Some (reading_of S inputs i t 2)
@@ -179,20 +189,26 @@ module _ (f : SmallSet) (S : Tables) (is : IsSetOf f S) (proper : AreProper f) w
     same-input = runs.design.is.same_given t 2 _ long_s (is-input f S is)
 
     input-within : IsWithin (bounds_of f.variables.input) (side_reading S side.Sof s t 2)
-    input-within = subst (IsWithin (bounds_of f.variables.input)) (sym same-input) (runs.inputs.is.values.ranges t 2 _ long_i (is-input f S is))
+    input-within = subst (IsWithin (bounds_of f.variables.input)) (sym same-input)
+        (runs.inputs.is.values.ranges t 2 _ long_i (is-input f S is))
 
     design-is : result_at f.rows.design (side_reading S side.Sof s t 2) ≡ Some (side_reading S side.Sof s t 3)
-    design-is = given-by f S is section.Sof 3 2 f.rows.design f.variables.output f.variables.input (design-cells f S is) (proper section.Sof)
-        (look S (side_reading S side.Sof s) t) (side_reading S side.Sof s t 3) input-within (runs.design.is.follows t long_s 3 _ (is-output f S is (defined_kinds section.Sof) refl))
+    design-is = given-by f S is section.Sof 3 2 f.rows.design f.variables.output f.variables.input (design-cells f S is)
+        (proper section.Sof)
+        (look S (side_reading S side.Sof s) t) (side_reading S side.Sof s t 3) input-within
+        (runs.design.is.follows t long_s 3 _ (is-output f S is (defined_kinds section.Sof) refl))
 
     output-is : result_at f.rows.output (side_reading S side.Sof s t 3) ≡ Some (reading_of S controlled c t 1)
-    output-is = given-by f S is section.Out 1 3 f.rows.output f.variables.controlled f.variables.output (output-cells f S is) (proper section.Out)
-        (look S (side_reading S side.Sof s) t) (reading_of S controlled c t 1) (runs.design.is.values.ranges t 3 _ long_s (is-output f S is (side_kinds side.Sof) refl))
+    output-is = given-by f S is section.Out 1 3 f.rows.output f.variables.controlled f.variables.output (output-cells f S is)
+        (proper section.Out)
+        (look S (side_reading S side.Sof s) t) (reading_of S controlled c t 1)
+        (runs.design.is.values.ranges t 3 _ long_s (is-output f S is (side_kinds side.Sof) refl))
         (runs.outputs.is.follows t long_c 1 _ (is-con f S is controlled refl))
 
     designed-is : designed_at f.rows x_of ≡ Some (reading_of S controlled c t 1)
     designed-is =
-        ap (λ o. option_and_then (result_at f.rows.output) (option_and_then (result_at f.rows.design) o)) (input-is ∙ ap Some (sym same-input))
+        ap (λ o. option_and_then (result_at f.rows.output) (option_and_then (result_at f.rows.design) o))
+        (input-is ∙ ap Some (sym same-input))
         ∙ ap (option_and_then (result_at f.rows.output)) design-is ∙ output-is
 
     same-at : required_at f.rows x_of ≡ designed_at f.rows x_of → SameAt S r c t
@@ -217,7 +233,8 @@ module _ (f : SmallSet) (S : Tables) (is : IsSetOf f S) (proper : AreProper f) w
       (r, i, s, c, runs, λ t below. same-at h r i s c runs t below (same (x_of h r i s c runs t below) (x-within h r i s c runs t below)))
 
   -- on a list of one scan at which the rows differ, the controlled value does
-  pub differs : FitsOneTrace → HasOneImage → (value : ℤ) → DiffersAt f.rows (bounds_of f.variables.monitored) value → FirstDiffers S (steady 1 value) 0
+  pub differs : FitsOneTrace → HasOneImage → (value : ℤ) → DiffersAt f.rows (bounds_of f.variables.monitored) value
+      → FirstDiffers S (steady 1 value) 0
   differs one_trace one_image value at =
       let allowed = steady-allowed f S is 1 value at.within (omega arith) in
       let (r, i, s, c, runs) = run-of one_trace one_image (steady 1 value) allowed in
@@ -233,5 +250,6 @@ module _ (f : SmallSet) (S : Tables) (is : IsSetOf f S) (proper : AreProper f) w
         variable = 1;
         declared = var_of Con f.variables.controlled;
         is_controlled = is-con f S is controlled refl;
-        differs = λ e. at.differs (subst (λ x. required_at f.rows x ≡ designed_at f.rows x) x-is (alike (steady 1 value) r i s c runs 0 (omega arith) e));
+        differs = λ e. at.differs (subst (λ x. required_at f.rows x ≡ designed_at f.rows x) x-is
+            (alike (steady 1 value) r i s c runs 0 (omega arith) e));
       }

@@ -1,7 +1,8 @@
 ghost use Rattle.std.specs.Prelude.{◌≡◌, ◌↔◌, IsTrue, map};
 ghost use Rattle.std.specs.List.{list_any};
 ghost use Rattle.std.specs.Str.{bytes_eq};
-ghost use Rattle.ft_small.specs.meaning.SmallSet.{IsGoodSmallSet, IsGoodVariable, AreGoodVariables, HasRows, HaveRows, all_differ, names_in};
+ghost use Rattle.ft_small.specs.meaning.SmallSet.{IsGoodSmallSet, IsGoodVariable, AreGoodVariables, HasRows, HaveRows, all_differ};
+ghost use Rattle.ft_small.specs.meaning.SmallSet.{names_in};
 
 use crate::small_set::{Row, SmallSet, TableRows, Variable, Variables};
 use ft_base::Range;

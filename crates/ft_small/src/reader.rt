@@ -14,7 +14,9 @@ ghost use Rattle.ft_small.specs.declared.small_set.SmallSet.{SmallSet};
 ghost use Rattle.ft_small.specs.meaning.Lexeme.{Lexeme, word, name, number, sign, is_short, lexeme_of};
 ghost use Rattle.ft_small.specs.steps.Cursor.{Starts};
 ghost use Rattle.ft_small.specs.meaning.SetOf.{HasNames};
-ghost use Rattle.ft_small.specs.meaning.SmallSet.{bound_lexemes, rel_sign, guard_lexemes, entry_lexemes, row_lexemes, rows_lexemes, table_lexemes, variable_lexemes, head_lexemes, block_lexemes, variables_lexemes, tables_lexemes, small_set_lexemes, Reads, SpellsSmallSet};
+ghost use Rattle.ft_small.specs.meaning.SmallSet.{bound_lexemes, rel_sign, guard_lexemes, entry_lexemes, row_lexemes, rows_lexemes};
+ghost use Rattle.ft_small.specs.meaning.SmallSet.{table_lexemes, variable_lexemes, head_lexemes, block_lexemes, variables_lexemes};
+ghost use Rattle.ft_small.specs.meaning.SmallSet.{tables_lexemes, small_set_lexemes, Reads, SpellsSmallSet};
 
 use crate::check::is_good;
 use crate::cursor::{Cursor, Refusal, number_of};
@@ -115,7 +117,8 @@ fn row(cursor: &mut Cursor, read: &[u8]) -> Result<Row, Refusal>
 fn rows(alloc: Global, cursor: &mut Cursor, read: &[u8]) -> Result<List<Row>, Refusal>
     ensures spelled { IfOk result (λ found. cursor.old ≡ rows_lexemes read.now found cursor.new) }
     ensures all { OnOk result (Starts (word (codes "row")) cursor.new → ⊥) }
-    ensures only { (found : List Row) (rest : List Lexeme) → cursor.old ≡ rows_lexemes read.now found (sign (codes "}") ∷ rest) → IsOkUnless result Refusal.NoMemory }
+    ensures only { (found : List Row) (rest : List Lexeme) → cursor.old ≡ rows_lexemes read.now found (sign (codes "}") ∷ rest)
+        → IsOkUnless result Refusal.NoMemory }
 {
     let mut found = List::new(alloc);
     while cursor.is_at_word(b"row") {
@@ -135,7 +138,8 @@ fn table(
     read: &[u8],
 ) -> Result<List<Row>, Refusal>
     ensures spelled { IfOk result (λ found. cursor.old ≡ table_lexemes section.now target.now read.now found cursor.new) }
-    ensures only { (found : List Row) (rest : List Lexeme) → cursor.old ≡ table_lexemes section.now target.now read.now found rest → IsOkUnless result Refusal.NoMemory }
+    ensures only { (found : List Row) (rest : List Lexeme) → cursor.old ≡ table_lexemes section.now target.now read.now found rest
+        → IsOkUnless result Refusal.NoMemory }
 {
     cursor.word(section)?;
     cursor.word(b"normal")?;
@@ -153,7 +157,8 @@ fn table(
 #[tactic(auto, unfolding(crate::specs::meaning::SmallSet::variable_lexemes))]
 fn variable(alloc: Global, cursor: &mut Cursor, kind: &[u8]) -> Result<Variable, Refusal>
     ensures spelled { IfOk result (λ v. cursor.old ≡ variable_lexemes kind.now v cursor.new) }
-    ensures only { (v : Variable) (rest : List Lexeme) → cursor.old ≡ variable_lexemes kind.now v rest → IsOkUnless result Refusal.NoMemory }
+    ensures only { (v : Variable) (rest : List Lexeme) → cursor.old ≡ variable_lexemes kind.now v rest
+        → IsOkUnless result Refusal.NoMemory }
 {
     cursor.word(kind)?;
     let name = List::copy_of(alloc, cursor.name()?)?;
@@ -171,7 +176,8 @@ fn variable(alloc: Global, cursor: &mut Cursor, kind: &[u8]) -> Result<Variable,
 #[tactic(auto, unfolding(crate::specs::meaning::SmallSet::head_lexemes))]
 fn head(alloc: Global, cursor: &mut Cursor) -> Result<(Text, u32), Refusal>
     ensures spelled { IfOk result (λ h. cursor.old ≡ head_lexemes h.0 h.1 cursor.new) }
-    ensures only { (set : List ℕ) (period : ℕ) (rest : List Lexeme) → cursor.old ≡ head_lexemes set period rest → IsOkUnless result Refusal.NoMemory }
+    ensures only { (set : List ℕ) (period : ℕ) (rest : List Lexeme) → cursor.old ≡ head_lexemes set period rest
+        → IsOkUnless result Refusal.NoMemory }
 {
     cursor.word(b"set")?;
     let name = List::copy_of(alloc, cursor.name()?)?;
@@ -192,7 +198,8 @@ fn block(
     output: &[u8],
 ) -> Result<Text, Refusal>
     ensures spelled { IfOk result (λ found. cursor.old ≡ block_lexemes found controlled.now output.now cursor.new) }
-    ensures only { (found : List ℕ) (rest : List Lexeme) → cursor.old ≡ block_lexemes found controlled.now output.now rest → IsOkUnless result Refusal.NoMemory }
+    ensures only { (found : List ℕ) (rest : List Lexeme) → cursor.old ≡ block_lexemes found controlled.now output.now rest
+        → IsOkUnless result Refusal.NoMemory }
 {
     cursor.word(b"block")?;
     let found = List::copy_of(alloc, cursor.name()?)?;
@@ -231,7 +238,8 @@ fn variables(alloc: Global, cursor: &mut Cursor) -> Result<Variables, Refusal>
 #[tactic(auto, unfolding(crate::specs::meaning::SmallSet::tables_lexemes))]
 fn tables(alloc: Global, cursor: &mut Cursor, variables: &Variables) -> Result<TableRows, Refusal>
     ensures spelled { IfOk result (λ t. cursor.old ≡ tables_lexemes variables.now t cursor.new) }
-    ensures only { (t : TableRows) (rest : List Lexeme) → cursor.old ≡ tables_lexemes variables.now t rest → IsOkUnless result Refusal.NoMemory }
+    ensures only { (t : TableRows) (rest : List Lexeme) → cursor.old ≡ tables_lexemes variables.now t rest
+        → IsOkUnless result Refusal.NoMemory }
 {
     let monitored = variables.monitored.name.as_slice();
     let controlled = variables.controlled.name.as_slice();

@@ -2,7 +2,8 @@ ghost use Rattle.std.specs.Prelude.{◌≡◌, ◌≢◌, ◌↔◌, ◌+ℤ◌,
 ghost use Rattle.ft_base.specs.Interval.{IsWithin};
 ghost use Rattle.ft_small.specs.meaning.SmallSet.{AreGoodVariables, IsGoodSmallSet, IsGoodVariable, bounds_of};
 ghost use Rattle.ft_small.specs.meaning.Finding.{IsLarge};
-ghost use Rattle.ft_small.specs.steps.Verdict.{AreProper, DiffersAt, HasLarge, IsFirstImproperIn, IsImproperIn, IsImproperOn, IsProperIn, defined_in, read_in, rows_in};
+ghost use Rattle.ft_small.specs.steps.Verdict.{AreProper, DiffersAt, HasLarge, IsFirstImproperIn, IsImproperIn, IsImproperOn, IsProperIn};
+ghost use Rattle.ft_small.specs.steps.Verdict.{defined_in, read_in, rows_in};
 ghost use Rattle.ft_small.specs.steps.Rows.{IsProperOn, IsSameOn, is_proper_at, required_at, designed_at};
 
 use crate::rows::{designed_at, is_proper_at, required_at};

@@ -18,7 +18,11 @@ gap-of before next = elim (cases_Bool (hugs_after before)) [
   | inl hugs ↦ rw hugs refl
   | inr free ↦ elim (cases_Bool (is_history before)) [
     | inl is ↦ rw (free, is) refl
-    | inr other ↦ elim (cases_Bool (hugs_before next)) [ inl hugs ↦ rw (free, other, hugs) refl | inr no_hug ↦ rw (free, other, no_hug) refl ]
+    | inr other ↦ elim (cases_Bool (hugs_before next)) [
+      | inl hugs ↦ rw (free, other, hugs) refl
+      | inr no_hug
+          ↦ rw (free, other, no_hug) refl
+    ]
   ]
 ]
 
@@ -39,7 +43,8 @@ text-after w before (next ∷ more) h =
     ∙ ap (λ (l : List ℕ). l ++ text_after next more) (put-text w next)
     ∙ append_assoc (w.text ++ gap_of w.last next) (piece_text next) (text_after next more)
     ∙ append_assoc w.text (gap_of w.last next) (piece_text next ++ text_after next more)
-    ∙ ap (λ (g : List ℕ). w.text ++ (g ++ (piece_text next ++ text_after next more))) (ap (λ (l : Last). gap_of l next) h ∙ gap-of before next)
+    ∙ ap (λ (g : List ℕ). w.text ++ (g ++ (piece_text next ++ text_after next more)))
+    (ap (λ (l : Last). gap_of l next) h ∙ gap-of before next)
 
 text-line : (w : Writer) (pieces : List Piece) → w.last ≡ Start → (put_all w pieces).text ≡ w.text ++ line_text pieces
 text-line w [] h = ap (λ (v : Writer). v.text) (put_all-none w) ∙ sym (append-nil w.text)

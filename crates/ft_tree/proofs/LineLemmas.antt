@@ -11,7 +11,8 @@ use Rattle.ft_tree.specs.laws.Tokens.{Shape, piece_shape}
 use Rattle.ft_tree.proofs.MadeLemmas.{IsMade, made-after_blanks}
 use Rattle.ft_tree.proofs.PieceLemmas.{is_sound, made-after}
 
-made-line : SignsLongest → (pieces : List Piece) (rest : List ℕ) (shapes : List Shape) → list_all is_sound pieces ≡ true → IsMade rest shapes
+made-line : SignsLongest → (pieces : List Piece) (rest : List ℕ) (shapes : List Shape) → list_all is_sound pieces ≡ true
+    → IsMade rest shapes
     → IsMade (line_text pieces ++ (10 ∷ rest)) (map piece_shape pieces ++ shapes)
 made-line law [] rest shapes h made = made-after_blanks shapes (10 ∷ []) rest refl made
 made-line law (first ∷ more) rest shapes h made =

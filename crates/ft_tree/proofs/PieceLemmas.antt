@@ -1,5 +1,6 @@
 -- The tokens of a line are read as they were written: what stands after one, a space or not, doesn't lengthen it.
-use Rattle.std.proofs.Common.{◌≡◌, ◌∙◌, sym, ap, subst, refl, ℕ, ◌==◌, ◌≤◌, nat_le, List, [], ◌∷◌, ◌++◌, ◌&&◌, ◌||◌, inl, inr, not, Bool, true, false, codes, length, take, map, append_assoc, arith}
+use Rattle.std.proofs.Common.{◌≡◌, ◌∙◌, sym, ap, subst, refl, ℕ, ◌==◌, ◌≤◌, nat_le, List, [], ◌∷◌, ◌++◌, ◌&&◌, ◌||◌, inl, inr, not, Bool}
+use Rattle.std.proofs.Common.{true, false, codes, length, take, map, append_assoc, arith}
 use Rattle.std.specs.List.{Contains, list_all, list_any, prefix_len}
 use Rattle.std.specs.Io.{StartsWith}
 use Rattle.std.specs.Str.{bytes_eq}

@@ -1,5 +1,6 @@
 -- Each piece of a tree's lines is the text of one token.
-use Rattle.std.proofs.Common.{◌≡◌, ◌∙◌, sym, subst, refl, ℕ, List, [], ◌∷◌, ◌++◌, ◌&&◌, not, nat_le, Bool, true, false, codes, decimal, length, map, Option, Some, None}
+use Rattle.std.proofs.Common.{◌≡◌, ◌∙◌, sym, subst, refl, ℕ, List, [], ◌∷◌, ◌++◌, ◌&&◌, not, nat_le, Bool, true, false, codes, decimal}
+use Rattle.std.proofs.Common.{length, map, Option, Some, None}
 use Rattle.std.specs.List.{flat_map, list_all}
 use Rattle.std.proofs.lemmas.Bool.{and_parts, and_from, true≢false}
 use Rattle.std.proofs.lemmas.List.Concat.{flat_map-cons}

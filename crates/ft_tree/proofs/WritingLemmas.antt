@@ -50,7 +50,8 @@ lines-more line w v u xs i x h is before here =
     let taken = take_more xs i x h ∙ ap (λ y. take i xs ++ y ∷ []) (sym is) in
     let parts = ap (map line) taken ∙ map-append line (take i xs) (x ∷ []) in
     here ∙ ap (λ (z : Writer). with_line z (line x)) before
-    ∙ sym (lines-append w (map line (take i xs)) (line x ∷ []) ∙ lines-cons (with_lines w (map line (take i xs))) (line x) [] ∙ lines-none _)
+    ∙ sym (lines-append w (map line (take i xs)) (line x ∷ []) ∙ lines-cons (with_lines w (map line (take i xs))) (line x) []
+    ∙ lines-none _)
     ∙ ap (with_lines w) (sym parts)
 
 -- the lines of one element more
@@ -66,7 +67,8 @@ groups-more lines w v u xs i x h is before here =
     ∙ ap (with_lines w) (sym groups)
 
 -- a part of a line more, after its comma
-pub parts-more : {X : Type 0} (pieces : X → List Piece) (comma : Piece) (w v u t : Writer) (xs : List X) (i : ℕ) (x : X) → i < length xs → x ≡ get_or xs i x
+pub parts-more : {X : Type 0} (pieces : X → List Piece) (comma : Piece) (w v u t : Writer) (xs : List X) (i : ℕ) (x : X) → i < length xs → x
+    ≡ get_or xs i x
     → v ≡ put_all w (flat_map (λ y. comma ∷ pieces y) (take i xs)) → u ≡ put v comma → t ≡ put_all u (pieces x)
     → t ≡ put_all w (flat_map (λ y. comma ∷ pieces y) (take (i + 1) xs))
 parts-more pieces comma w v u t xs i x h is before put_comma here =
@@ -87,7 +89,8 @@ pub lines-five : (w w1 w2 w3 w4 w5 : Writer) (xs1 xs2 xs3 xs4 xs5 : List Line)
 lines-five w w1 w2 w3 w4 w5 xs1 xs2 xs3 xs4 xs5 h1 h2 h3 h4 h5 = simp lines-append (cc)
 
 -- all parts of a list, the first with no comma
-pub parts-all : {X : Type 0} (pieces : X → List Piece) (w v u : Writer) (xs more : List X) (first : X) (i : ℕ) → xs ≡ first ∷ more → length more ≤ i
+pub parts-all : {X : Type 0} (pieces : X → List Piece) (w v u : Writer) (xs more : List X) (first : X) (i : ℕ) → xs ≡ first ∷ more
+    → length more ≤ i
     → v ≡ put_all w (pieces first) → u ≡ put_all v (flat_map (λ y. token (codes ",") ∷ pieces y) (take i more))
     → u ≡ put_all w (listed pieces xs)
 parts-all pieces w v u xs more first i split over head rest =

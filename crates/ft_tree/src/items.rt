@@ -1,6 +1,7 @@
 ghost use Rattle.std.specs.Prelude.{◌≡◌, OnOk};
 ghost use Rattle.ft_tree.specs.meaning.Line.{outer};
-ghost use Rattle.ft_tree.specs.meaning.Lines.{band_pieces, constant_pieces, terminated, enum_type_pieces, held_pieces, hold_pieces, hyst_pieces, item_lines, memory_head, nat_pieces, range_type_pieces, variable_pieces};
+ghost use Rattle.ft_tree.specs.meaning.Lines.{band_pieces, constant_pieces, terminated, enum_type_pieces, held_pieces, hold_pieces};
+ghost use Rattle.ft_tree.specs.meaning.Lines.{hyst_pieces, item_lines, memory_head, nat_pieces, range_type_pieces, variable_pieces};
 ghost use Rattle.ft_tree.specs.writing.Writer.{put_all, with_line, with_lines};
 
 use crate::expr::Expr;

@@ -1,6 +1,7 @@
 ghost use Rattle.std.specs.Prelude.{◌≡◌, OnOk, map};
 ghost use Rattle.ft_tree.specs.meaning.Line.{Line};
-ghost use Rattle.ft_tree.specs.meaning.Lines.{exprs_line, fact_line, goal_line, moment_text, part_lines, row_line, section_text, shows_line, var_pieces, vrow_line};
+ghost use Rattle.ft_tree.specs.meaning.Lines.{exprs_line, fact_line, goal_line, moment_text, part_lines, row_line, section_text};
+ghost use Rattle.ft_tree.specs.meaning.Lines.{shows_line, var_pieces, vrow_line};
 ghost use Rattle.ft_tree.specs.writing.Writer.{put_all, with_line, with_lines};
 
 use crate::expr::Expr;

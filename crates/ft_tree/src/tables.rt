@@ -1,6 +1,7 @@
 ghost use Rattle.std.specs.Prelude.{◌≡◌, ◌∷◌, ◌++◌, [], OnOk, codes, map};
 ghost use Rattle.ft_tree.specs.meaning.Line.{token};
-ghost use Rattle.ft_tree.specs.meaning.Lines.{block_lines, brace_line, exprs_line, head_line, row_line, table_head, table_lines, vector_head, vrow_line};
+ghost use Rattle.ft_tree.specs.meaning.Lines.{block_lines, brace_line, exprs_line, head_line, row_line, table_head, table_lines};
+ghost use Rattle.ft_tree.specs.meaning.Lines.{vector_head, vrow_line};
 ghost use Rattle.ft_tree.specs.writing.Writer.{closed, put, with_line, with_lines};
 
 use crate::expr::Expr;

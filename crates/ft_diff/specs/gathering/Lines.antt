@@ -34,7 +34,8 @@ line_if true (Some d) = d ∷ []
 -- the difference lines of an atom's forced literals
 abbrev pub lines_at : FormulaView → PartView → ℕ → List Diff
 lines_at f p a =
-    line_if (forced f p a true) (form_diff true (slice_get f.atoms a)) ++ line_if (forced f p a false) (form_diff false (slice_get f.atoms a))
+    line_if (forced f p a true) (form_diff true (slice_get f.atoms a))
+    ++ line_if (forced f p a false) (form_diff false (slice_get f.atoms a))
 
 -- and of the atoms below a number
 abbrev pub lines_below : FormulaView → PartView → ℕ → List Diff

@@ -67,4 +67,5 @@ shape_of (b ∷ more) = first_shape b (b ∷ more)
 
 -- the place after one byte more
 abbrev pub next_place : Place → ℕ → Place
-next_place place b = if b == 10 then record { line = place.line + 1; column = 1 } else record { line = place.line; column = place.column + 1 }
+next_place place b = if b == 10 then record { line = place.line + 1; column = 1 } else record
+    { line = place.line; column = place.column + 1 }

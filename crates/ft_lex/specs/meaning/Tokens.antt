@@ -109,7 +109,8 @@ is_last Sign = false
 -- they are the tokens of the text from a place on. The last, and no other, is End or Bad
 abbrev pub AreTokensFrom : List ℕ → ℕ → List Token → Type 0
 AreTokensFrom text from [] = ⊥
-AreTokensFrom text from (token ∷ more) = IsNext text from token × MatchBool (is_last token.kind) (more ≡ []) (AreTokensFrom text token.end more)
+AreTokensFrom text from (token ∷ more) = IsNext text from token × MatchBool (is_last token.kind) (more ≡ [])
+    (AreTokensFrom text token.end more)
 
 -- they are the tokens of the text
 abbrev pub IsTokens : List ℕ → List Token → Type 0

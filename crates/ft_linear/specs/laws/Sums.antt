@@ -21,6 +21,7 @@ AllWithinTightened = (f : FormulaView) (p : PartView) (x : ℕ → ℤ) (u : ℕ
 -- a forced literal of at most three unknowns, with the bounds that cancel the others, leaves an unknown that span and no other
 abbrev pub SinglesTighten : Type 0
 SinglesTighten =
-    (f : FormulaView) (p : PartView) (a : ℕ) (s : Bool) (u : ℕ) (l : LinView) (span : ℤ × ℤ) → slice_get f.atoms a ≡ Some l → IsProper l.factors l.constant
+    (f : FormulaView) (p : PartView) (a : ℕ) (s : Bool) (u : ℕ) (l : LinView) (span : ℤ × ℤ) → slice_get f.atoms a ≡ Some l
+    → IsProper l.factors l.constant
     → HasUnknowns (length p.spans) l.factors → length l.factors ≤ 3 → forced f p a s ≡ true → u < length p.spans
     → Tightens f p u (single_lines a s u l) span ↔ (single_span p.spans u (literal_form s l) ≡ Some span)

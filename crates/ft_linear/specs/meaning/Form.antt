@@ -1,5 +1,6 @@
 -- Whole linear forms: their values at points, and their least and greatest values over areas.
-use Rattle.std.specs.Prelude.{◌≡◌, ◌≢◌, ◌≤◌, ◌<◌, ◌+◌, ℕ, ℤ, pos, ◌+ℤ◌, ◌*ℤ◌, int_lt, List, [], ◌∷◌, Some, slice_get, slice_index_or, length, All, unsigned_abs, if◌then◌else◌}
+use Rattle.std.specs.Prelude.{◌≡◌, ◌≢◌, ◌≤◌, ◌<◌, ◌+◌, ℕ, ℤ, pos, ◌+ℤ◌, ◌*ℤ◌, int_lt, List, [], ◌∷◌, Some, slice_get, slice_index_or}
+use Rattle.std.specs.Prelude.{length, All, unsigned_abs, if◌then◌else◌}
 use Rattle.ft_base.specs.Interval.{IsWithin}
 use Rattle.ft_linear.specs.meaning.Bounds.{value_most}
 

@@ -1,5 +1,6 @@
 -- Forced literals that leave an unknown at most half of its values by their own line and the bounds of their other unknowns.
-use Rattle.std.specs.Prelude.{◌≡◌, ◌≢◌, ◌≤◌, ℕ, ℤ, pos, ◌+ℤ◌, ◌-ℤ◌, ◌*ℤ◌, int_lt, int_le, nat_eq, not, Bool, true, List, ◌∷◌, map, filter, length, Option, Some, slice_get, unsigned_abs, if◌then◌else◌}
+use Rattle.std.specs.Prelude.{◌≡◌, ◌≢◌, ◌≤◌, ℕ, ℤ, pos, ◌+ℤ◌, ◌-ℤ◌, ◌*ℤ◌, int_lt, int_le, nat_eq, not, Bool, true, List, ◌∷◌, map, filter}
+use Rattle.std.specs.Prelude.{length, Option, Some, slice_get, unsigned_abs, if◌then◌else◌}
 use Rattle.ft_linear.specs.declared.lines.Line.{Line}
 use Rattle.ft_linear.specs.declared.lines.Line.TheVariants.{Atom, Upper, Lower}
 use Rattle.ft_linear.specs.meaning.Form.{Factor, LinView, least, low_end, span_at}
@@ -21,7 +22,8 @@ single_lines a s u l = Atom a s 1 ∷ map cancelling (filter (is_other u) (liter
 -- what the form m of a single literal leaves an unknown with the low ends of its other unknowns: one pass over the form makes their sum
 abbrev pub single_span : List (ℤ × ℤ) → ℕ → LinView → Option (ℤ × ℤ)
 single_span spans u m =
-    narrowed (factor_of u m.factors) (m.constant +ℤ (least spans m.factors -ℤ low_end (factor_of u m.factors) (span_at spans u))) (span_at spans u)
+    narrowed (factor_of u m.factors) (m.constant +ℤ (least spans m.factors -ℤ low_end (factor_of u m.factors) (span_at spans u)))
+    (span_at spans u)
 
 -- at most half of the values
 abbrev pub is_half : ℤ × ℤ → ℤ × ℤ → Bool

@@ -1,5 +1,6 @@
 -- The values, the forced literals, the truth and the points of a part.
-use Rattle.std.specs.Prelude.{◌≡◌, ℕ, ℤ, pos, ◌+ℤ◌, int_lt, int_le, Bool, true, false, ◌&&◌, ◌||◌, List, Option, Some, None, slice_get, unwrap_or, length, if◌then◌else◌}
+use Rattle.std.specs.Prelude.{◌≡◌, ℕ, ℤ, pos, ◌+ℤ◌, int_lt, int_le, Bool, true, false, ◌&&◌, ◌||◌, List, Option, Some, None, slice_get}
+use Rattle.std.specs.Prelude.{unwrap_or, length, if◌then◌else◌}
 use Rattle.std.specs.List.{list_any, list_all, range_with_len}
 use Rattle.ft_base.specs.declared.three.Three.{Three}
 use Rattle.ft_base.specs.declared.three.Three.TheVariants.{No, Maybe, Yes}
@@ -75,6 +76,7 @@ atoms_of f = range_with_len 0 (length f.atoms)
 -- Yes where the root's value is Yes and each decided atom is fixed as decided
 abbrev pub truth_of : FormulaView → PartView → Three
 truth_of f p =
-    if is_no (value_of (atom_value f p) f.root) || list_any (is_against f p) (atoms_of f) || list_any (is_forced_both f p) (atoms_of f) then No
+    if is_no (value_of (atom_value f p) f.root) || list_any (is_against f p) (atoms_of f)
+    || list_any (is_forced_both f p) (atoms_of f) then No
     else if is_yes (value_of (atom_value f p) f.root) && list_all (is_agreed f p) (atoms_of f) then Yes
     else Maybe

@@ -203,7 +203,8 @@ type_item before =
 -- a clause on the environment: "nat" ( "first" | "always" | "step" ) expr ";"
 abbrev pub clause : List Item → Language Item
 clause before =
-    token (as_word (codes "nat")) (counted (is_full clauses before) limit.Nat) ▷ λ _. token as_moment no_pass ▷ λ moment. expression false ▷ λ cond.
+    token (as_word (codes "nat")) (counted (is_full clauses before) limit.Nat) ▷ λ _. token as_moment no_pass ▷ λ moment. expression false ▷
+    λ cond.
     sign (codes ";") ▷ λ _. nothing (item.Nat moment cond)
 
 -- a part of a block that may be absent: its word, names ";"

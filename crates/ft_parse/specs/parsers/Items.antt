@@ -34,7 +34,8 @@ as_fact_word lexeme = or_else (as_word (codes "shows") lexeme) (as_word (codes "
 -- whether an item begins so
 abbrev pub is_item_start : Lexeme → Bool
 is_item_start lexeme =
-    can (as_word (codes "const")) lexeme || can (as_word (codes "type")) lexeme || can as_var_word lexeme || can as_side lexeme || can as_map lexeme
+    can (as_word (codes "const")) lexeme || can (as_word (codes "type")) lexeme || can as_var_word lexeme || can as_side lexeme
+    || can as_map lexeme
     || can (as_word (codes "nat")) lexeme || can (as_word (codes "block")) lexeme
 
 unfoldable pub declared_by : Sort → LimitWord → List Item → Parser Word
@@ -74,7 +75,8 @@ header_by text = word_by text ▶ λ _. entries_by ▶ λ cells. sign_by (codes 
 
 unfoldable pub grid_by : List Item → List ℕ → (Word → List Expr → List Row → Item) → Parser Item
 grid_by before text make =
-    declared_by tables limit.Tables before ▶ λ target. sign_by (codes "{") ▶ λ _. header_by text ▶ λ cells. several_by (can (as_word (codes "row"))) row_by ▶ λ rows.
+    declared_by tables limit.Tables before ▶ λ target. sign_by (codes "{") ▶ λ _. header_by text ▶ λ cells. several_by
+    (can (as_word (codes "row"))) row_by ▶ λ rows.
     sign_by (codes "}") ▶ λ _. give (make target cells rows)
 
 unfoldable pub vector_grid_by : SectionWord → Parser Item
@@ -85,18 +87,21 @@ vector_grid_by s =
 unfoldable pub table_by : List Item → SectionAt → Parser Item
 table_by before s =
     alternative_by (can (as_word (codes "normal"))) (word_by (codes "normal") ▶ λ _. grid_by before (codes "columns") (item.Normal s.word))
-    (alternative_by (can (as_word (codes "inverted"))) (word_by (codes "inverted") ▶ λ _. grid_by before (codes "terms") (item.Inverted s.word))
+    (alternative_by (can (as_word (codes "inverted"))) (word_by (codes "inverted") ▶ λ _. grid_by before (codes "terms")
+    (item.Inverted s.word))
     (read_token (as_word (codes "vector")) (counted_at (is_full tables before) limit.Tables s.place) ▶ λ _. vector_grid_by s.word))
 
 unfoldable pub variable_by : List Item → VarWord → Parser Item
 variable_by before words =
-    declared_by variables limit.Variables before ▶ λ w. sign_by (codes ":") ▶ λ _. kind_part_by ▶ λ of. word_by (codes "init") ▶ λ _. value_by ▶ λ init.
+    declared_by variables limit.Variables before ▶ λ w. sign_by (codes ":") ▶ λ _. kind_part_by ▶ λ of. word_by (codes "init") ▶ λ _.
+    value_by ▶ λ init.
     sign_by (codes ";") ▶ λ _. give (item.Variable words w of init)
 
 unfoldable pub held_by : List Item → SectionWord → Parser Item
 held_by before side =
     declared_by memories limit.Memories before ▶ λ w. sign_by (codes "(") ▶ λ _. expression_by false ▶ λ cond. sign_by (codes ",") ▶ λ _.
-    plain_bound_by ▶ λ hold. word_by (codes "ms") ▶ λ _. sign_by (codes ")") ▶ λ _. sign_by (codes ";") ▶ λ _. give (item.Held side w cond hold)
+    plain_bound_by ▶ λ hold. word_by (codes "ms") ▶ λ _. sign_by (codes ")") ▶ λ _. sign_by (codes ";") ▶ λ _. give
+    (item.Held side w cond hold)
 
 unfoldable pub hyst_by : List Item → SectionWord → Parser Item
 hyst_by before side =
@@ -136,7 +141,8 @@ type_item_by before =
 
 unfoldable pub clause_by : List Item → Parser Item
 clause_by before =
-    read_token (as_word (codes "nat")) (counted (is_full clauses before) limit.Nat) ▶ λ _. read_token as_moment no_pass ▶ λ moment. expression_by false ▶ λ cond.
+    read_token (as_word (codes "nat")) (counted (is_full clauses before) limit.Nat) ▶ λ _. read_token as_moment no_pass ▶ λ moment.
+    expression_by false ▶ λ cond.
     sign_by (codes ";") ▶ λ _. give (item.Nat moment cond)
 
 unfoldable pub listed_by : List ℕ → Parser (List Word)
@@ -155,7 +161,8 @@ fact_part_by before facts =
 
 unfoldable pub block_by : List Item → Parser Item
 block_by before =
-    word_by (codes "block") ▶ λ _. declared_by blocks limit.Blocks before ▶ λ w. sign_by (codes "{") ▶ λ _. listed_by (codes "takes") ▶ λ takes.
+    word_by (codes "block") ▶ λ _. declared_by blocks limit.Blocks before ▶ λ w. sign_by (codes "{") ▶ λ _. listed_by (codes "takes") ▶ λ
+    takes.
     listed_by (codes "uses") ▶ λ uses. several_by (can as_fact_word) (fact_part_by before) ▶ λ facts. sign_by (codes "}") ▶ λ _.
     give (item.Block w takes uses facts)
 
@@ -178,6 +185,8 @@ setting_by text = alternative_by (can (as_word text)) (word_by text ▶ λ _. nu
 
 unfoldable pub set_by : Parser Parts
 set_by =
-    word_by (codes "set") ▶ λ _. name_by ▶ λ w. sign_by (codes ";") ▶ λ _. word_by (codes "period") ▶ λ _. number_by ▶ λ period. word_by (codes "ms") ▶ λ _.
-    sign_by (codes ";") ▶ λ _. setting_by (codes "splits") ▶ λ splits. setting_by (codes "depth") ▶ λ depth. many is_item_start more_items_by [] ▶ λ items.
+    word_by (codes "set") ▶ λ _. name_by ▶ λ w. sign_by (codes ";") ▶ λ _. word_by (codes "period") ▶ λ _. number_by ▶ λ period. word_by
+    (codes "ms") ▶ λ _.
+    sign_by (codes ";") ▶ λ _. setting_by (codes "splits") ▶ λ splits. setting_by (codes "depth") ▶ λ depth. many is_item_start
+    more_items_by [] ▶ λ items.
     read_token as_end no_pass ▶ λ _. give (record { name = w.text; period = period; splits = splits; depth = depth; items = items })

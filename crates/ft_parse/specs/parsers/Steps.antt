@@ -23,12 +23,14 @@ one_more part before = part (length before) ▶ λ b. give (before ++ b ∷ [])
 
 -- a vector table after its section
 abbrev pub vector_by : List Item → SectionAt → Parser Item
-vector_by before s = read_token (as_word (codes "vector")) (counted_at (is_full tables before) limit.Tables s.place) ▶ λ _. vector_grid_by s.word
+vector_by before s = read_token (as_word (codes "vector")) (counted_at (is_full tables before) limit.Tables s.place) ▶ λ _. vector_grid_by
+    s.word
 
 -- a memory's name and its condition or term, with the comma after it
 abbrev pub condition_by : List Item → Parser (Word × Expr)
 condition_by before =
-    declared_by memories limit.Memories before ▶ λ w. sign_by (codes "(") ▶ λ _. expression_by false ▶ λ e. sign_by (codes ",") ▶ λ _. give (w, e)
+    declared_by memories limit.Memories before ▶ λ w. sign_by (codes "(") ▶ λ _. expression_by false ▶ λ e. sign_by (codes ",") ▶ λ _. give
+    (w, e)
 
 -- the end of a memory
 abbrev pub close_by : Parser (Unit {0})
@@ -36,7 +38,8 @@ close_by = sign_by (codes ")") ▶ λ _. sign_by (codes ";") ▶ λ _. give tt
 
 -- the lower and the upper bound of a band, and its start
 abbrev pub limits_by : Parser (Bound × Bound × Bool)
-limits_by = bound_by ▶ λ lo. sign_by (codes ",") ▶ λ _. bound_by ▶ λ hi. sign_by (codes ",") ▶ λ _. read_token as_start no_pass ▶ λ start. give (lo, hi, start)
+limits_by = bound_by ▶ λ lo. sign_by (codes ",") ▶ λ _. bound_by ▶ λ hi. sign_by (codes ",") ▶ λ _. read_token as_start no_pass ▶ λ start.
+    give (lo, hi, start)
 
 -- an item that begins with words for a variable, a side or a map, a clause, or a block
 abbrev pub worded_by : List Item → Parser Item
@@ -50,5 +53,6 @@ worded_by before =
 -- a set's name and its period
 abbrev pub start_by : Parser (List ℕ × Number)
 start_by =
-    word_by (codes "set") ▶ λ _. name_by ▶ λ w. sign_by (codes ";") ▶ λ _. word_by (codes "period") ▶ λ _. number_by ▶ λ period. word_by (codes "ms") ▶ λ _.
+    word_by (codes "set") ▶ λ _. name_by ▶ λ w. sign_by (codes ";") ▶ λ _. word_by (codes "period") ▶ λ _. number_by ▶ λ period. word_by
+    (codes "ms") ▶ λ _.
     sign_by (codes ";") ▶ λ _. give (w.text, period)

@@ -17,13 +17,24 @@ choice text a lexeme = elim (as_word text lexeme) [ None ↦ None | Some place �
 
 abbrev pub as_plain : Lexeme → Option Bound
 as_plain lexeme =
-    or_else (elim (as_number lexeme) [ None ↦ None | Some n ↦ Some (record { minus = false; value = plain.Number n.value; place = n.place }) ])
+    or_else (elim (as_number lexeme) [
+      | None ↦ None
+      | Some n ↦ Some (record { minus = false; value = plain.Number n.value; place = n.place })
+    ])
     (elim (as_name lexeme) [ None ↦ None | Some w ↦ Some (record { minus = false; value = plain.Name w.text; place = w.place }) ])
 
 abbrev pub as_truth : Lexeme → Option Bound
 as_truth lexeme =
-    or_else (elim (as_word (codes "true") lexeme) [ None ↦ None | Some place ↦ Some (record { minus = false; value = plain.Truth true; place = place }) ])
-    (elim (as_word (codes "false") lexeme) [ None ↦ None | Some place ↦ Some (record { minus = false; value = plain.Truth false; place = place }) ])
+    or_else (elim (as_word (codes "true") lexeme) [
+      | None ↦ None
+      | Some place
+          ↦ Some (record { minus = false; value = plain.Truth true; place = place })
+    ])
+    (elim (as_word (codes "false") lexeme) [
+      | None ↦ None
+      | Some place ↦ Some
+          (record { minus = false; value = plain.Truth false; place = place })
+    ])
 
 abbrev pub section_choice : List ℕ → SectionWord → Lexeme → Option SectionAt
 section_choice text s lexeme = elim (as_word text lexeme) [ None ↦ None | Some place ↦ Some (record { word = s; place = place }) ]
@@ -46,4 +57,5 @@ as_var_word lexeme =
 
 abbrev pub as_moment : Lexeme → Option NatWord
 as_moment lexeme =
-    or_else (choice (codes "first") moment.First lexeme) (or_else (choice (codes "always") moment.Always lexeme) (choice (codes "step") moment.Step lexeme))
+    or_else (choice (codes "first") moment.First lexeme) (or_else (choice (codes "always") moment.Always lexeme)
+    (choice (codes "step") moment.Step lexeme))

@@ -20,8 +20,10 @@ as_and lexeme = operator And (as_word (codes "and") lexeme)
 
 abbrev pub as_relation : Lexeme → Option Operator
 as_relation lexeme =
-    or_else (operator Eq (as_sign (codes "=") lexeme)) (or_else (operator Ne (as_sign (codes "<>") lexeme)) (or_else (operator Lt (as_sign (codes "<") lexeme))
-    (or_else (operator Le (as_sign (codes "<=") lexeme)) (or_else (operator Gt (as_sign (codes ">") lexeme)) (operator Ge (as_sign (codes ">=") lexeme))))))
+    or_else (operator Eq (as_sign (codes "=") lexeme)) (or_else (operator Ne (as_sign (codes "<>") lexeme))
+    (or_else (operator Lt (as_sign (codes "<") lexeme))
+    (or_else (operator Le (as_sign (codes "<=") lexeme)) (or_else (operator Gt (as_sign (codes ">") lexeme))
+    (operator Ge (as_sign (codes ">=") lexeme))))))
 
 abbrev pub as_sum : Lexeme → Option Operator
 as_sum lexeme = or_else (operator Add (as_sign (codes "+") lexeme)) (operator Sub (as_sign (codes "-") lexeme))

@@ -1,5 +1,6 @@
 -- Canonical forms: divided by the greatest common divisor of the factors, and negated where the first is negative.
-use Rattle.std.specs.Prelude.{◌≡◌, ◌<◌, ℕ, zero, suc, ◌%◌, pos, neg_ℤ, int_lt, nat_eq, not, Bool, true, List, [], ◌∷◌, length, map, unsigned_abs, if◌then◌else◌}
+use Rattle.std.specs.Prelude.{◌≡◌, ◌<◌, ℕ, zero, suc, ◌%◌, pos, neg_ℤ, int_lt, nat_eq, not, Bool, true, List, [], ◌∷◌, length, map}
+use Rattle.std.specs.Prelude.{unsigned_abs, if◌then◌else◌}
 use Rattle.std.specs.List.{list_all}
 use Rattle.ft_base.specs.Division.{floor_of}
 use Rattle.ft_linear.specs.meaning.Form.{Factor, LinView}
@@ -26,7 +27,8 @@ abbrev pub is_positive : List Factor → Bool
 is_positive [] = true
 is_positive (f ∷ fs) = not (int_lt f.1 (pos 0))
 
--- the form of the canonical atom: divided by the greatest common divisor of its factors, and 1 minus that where its first factor is negative
+-- the form of the canonical atom: divided by the greatest common divisor of its factors, and 1 minus that where its first factor is
+-- negative
 abbrev pub canonical : LinView → LinView
 canonical l = literal_form (is_positive l.factors) (divided (gcd_of l.factors) l)
 

@@ -1,5 +1,6 @@
 -- Settled formulas: canonical atoms, each once and numbered by its first occurrence from left to right.
-use Rattle.std.specs.Prelude.{◌≡◌, ◌<◌, ℕ, pos, int_lt, int_le, nat_eq, Bool, ◌&&◌, List, [], ◌∷◌, ◌++◌, length, Some, slice_get, if◌then◌else◌}
+use Rattle.std.specs.Prelude.{◌≡◌, ◌<◌, ℕ, pos, int_lt, int_le, nat_eq, Bool, ◌&&◌, List, [], ◌∷◌, ◌++◌, length, Some, slice_get}
+use Rattle.std.specs.Prelude.{if◌then◌else◌}
 use Rattle.std.specs.Ordering.{int_eq}
 use Rattle.std.specs.Cmp.Lexicographic.{pointwise}
 use Rattle.std.specs.List.{list_any, flat_map, position_or_len}

@@ -53,7 +53,8 @@ table_of section target read rows = record {
 
 abbrev pub tables_of : TableRows → List Table
 tables_of t =
-    table_of section.In 2 0 t.input ∷ table_of section.Req 1 0 t.required ∷ table_of section.Sof 3 2 t.design ∷ table_of section.Out 1 3 t.output ∷ []
+    table_of section.In 2 0 t.input ∷ table_of section.Req 1 0 t.required ∷ table_of section.Sof 3 2 t.design
+    ∷ table_of section.Out 1 3 t.output ∷ []
 
 -- the set, its variables and its block have names
 abbrev pub HasNames : SmallSet → Type 0

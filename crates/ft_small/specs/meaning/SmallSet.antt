@@ -1,5 +1,6 @@
 -- The grammar of the smallest sets: the lexemes of a set, and which sets it admits.
-use Rattle.std.specs.Prelude.{◌≡◌, ℕ, ◌<◌, ◌≤◌, ℤ, pos, neg_ℤ, Bool, true, not, ◌&&◌, List, [], ◌∷◌, length, codes, IsTrue, Result, Ok, Err, if◌then◌else◌}
+use Rattle.std.specs.Prelude.{◌≡◌, ℕ, ◌<◌, ◌≤◌, ℤ, pos, neg_ℤ, Bool, true, not, ◌&&◌, List, [], ◌∷◌, length, codes, IsTrue, Result, Ok, Err}
+use Rattle.std.specs.Prelude.{if◌then◌else◌}
 use Rattle.std.specs.List.{list_all, list_any}
 use Rattle.std.specs.Str.{bytes_eq}
 use Rattle.ft_base.specs.Interval.{IsBounded, IsWithin}
@@ -76,7 +77,8 @@ head_lexemes set period rest =
 -- "block" name "{" "takes" name "," name ";" "goal" name ";" "}"
 unfoldable pub block_lexemes : (block controlled output : List ℕ) → List Lexeme → List Lexeme
 block_lexemes block controlled output rest =
-    word (codes "block") ∷ name block ∷ sign (codes "{") ∷ word (codes "takes") ∷ name controlled ∷ sign (codes ",") ∷ name output ∷ sign (codes ";")
+    word (codes "block") ∷ name block ∷ sign (codes "{") ∷ word (codes "takes") ∷ name controlled ∷ sign (codes ",") ∷ name output
+    ∷ sign (codes ";")
     ∷ word (codes "goal") ∷ name controlled ∷ sign (codes ";") ∷ sign (codes "}") ∷ rest
 
 -- the variables, in this order

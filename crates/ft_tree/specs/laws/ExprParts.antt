@@ -66,7 +66,8 @@ pub lawful-Two : (op : Op) (left right : Expr) (place : Place)
     → is_lawful (Two op left right place) ≡ (is_lawful left && is_lawful right)
 lawful-Two op left right place = of_lawful _ (layer.Two op left right place) (rolls-Two op left right place)
 
-of_layer : (expr : Expr) (a_layer : Expr-F Expr) → roll-Expr a_layer ≡ expr → spelled expr ≡ spelled_layer (map-Expr Expr Spelled spelled a_layer)
+of_layer : (expr : Expr) (a_layer : Expr-F Expr) → roll-Expr a_layer ≡ expr → spelled expr
+    ≡ spelled_layer (map-Expr Expr Spelled spelled a_layer)
 unfolding spelled
 of_layer expr a_layer rolled = ap spelled (sym rolled) ∙ fold-roll-Expr Spelled spelled_layer a_layer
 
@@ -85,7 +86,8 @@ spelled-Prev name place = of_layer _ (layer.Prev name place) (rolls-Prev name pl
 pub spelled-Age : (name : List ℕ) (place : Place) → spelled (Age name place) ≡ spells Atom (history (codes "age") name)
 spelled-Age name place = of_layer _ (layer.Age name place) (rolls-Age name place)
 
-pub spelled-Not : (part : Expr) (place : Place) → spelled (Not part place) ≡ spells Negation (token (codes "not") ∷ operand Negation (spelled part))
+pub spelled-Not : (part : Expr) (place : Place) → spelled (Not part place)
+    ≡ spells Negation (token (codes "not") ∷ operand Negation (spelled part))
 spelled-Not part place = of_layer _ (layer.Not part place) (rolls-Not part place)
 
 pub spelled-Neg : (part : Expr) (place : Place) → spelled (Neg part place) ≡ spells Unary (minus ∷ operand Unary (spelled part))

@@ -51,7 +51,8 @@ nested_layer (layer.Prev name place) = nests Atom 1
 nested_layer (layer.Age name place) = nests Atom 1
 nested_layer (layer.Not part place) = nests Negation (suc (operand_depth Negation part))
 nested_layer (layer.Neg part place) = nests Unary (suc (operand_depth Unary part))
-nested_layer (layer.Two op left right place) = nests (op_level op) (max (operand_depth (left_level op) left) (operand_depth (right_level op) right))
+nested_layer (layer.Two op left right place) = nests (op_level op) (max (operand_depth (left_level op) left)
+    (operand_depth (right_level op) right))
 
 unfoldable pub nested : Expr → Nested
 nested = fold-Expr Nested nested_layer
@@ -140,7 +141,8 @@ is_item (Normal section target columns rows) = is_word target && are_entries col
 is_item (Inverted section target terms rows) = is_word target && are_entries terms && is_count 32 (length rows) && list_all is_row rows
 is_item (Vector section columns rows) = are_entries columns && is_count 32 (length rows) && list_all is_vrow rows
 is_item (Nat moment cond) = is_expr cond
-is_item (Block name takes uses facts) = is_word name && are_listed takes && are_listed uses && nat_le 1 (length facts) && list_all is_fact facts
+is_item (Block name takes uses facts) = is_word name && are_listed takes && are_listed uses && nat_le 1 (length facts)
+    && list_all is_fact facts
 
 -- what the limits of a set count
 pub data Sort : Type 0 where

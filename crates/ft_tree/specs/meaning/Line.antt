@@ -13,7 +13,8 @@ piece_text minus = codes "-"
 
 -- no space stands before `;`, `,`, `)` and `..`
 unfoldable pub hugs_before : Piece → Bool
-hugs_before (token bytes) = bytes_eq bytes (codes ";") || bytes_eq bytes (codes ",") || bytes_eq bytes (codes ")") || bytes_eq bytes (codes "..")
+hugs_before (token bytes) = bytes_eq bytes (codes ";") || bytes_eq bytes (codes ",") || bytes_eq bytes (codes ")")
+    || bytes_eq bytes (codes "..")
 hugs_before minus = false
 
 -- no space stands after `(`, `..` and a `-` before an operand

@@ -124,13 +124,15 @@ table_lines line head word header rows = body_lines head (exprs_line word header
 
 abbrev pub block_lines : Word → List Word → List Word → List FactItem → List Line
 block_lines name takes uses facts =
-    body_lines (token (codes "block") ∷ token name.text ∷ []) (part_lines (codes "takes") takes ++ (part_lines (codes "uses") uses ++ map fact_line facts))
+    body_lines (token (codes "block") ∷ token name.text ∷ []) (part_lines (codes "takes") takes
+    ++ (part_lines (codes "uses") uses ++ map fact_line facts))
 
 abbrev pub one_line : List Piece → List Line
 one_line pieces = outer (terminated pieces) ∷ []
 
 abbrev pub constant_pieces : Word → Bool → Number → List Piece
-constant_pieces name sign value = token (codes "const") ∷ token name.text ∷ token (codes "=") ∷ (sign_pieces sign ++ token (decimal value.value) ∷ [])
+constant_pieces name sign value = token (codes "const") ∷ token name.text ∷ token (codes "=")
+    ∷ (sign_pieces sign ++ token (decimal value.value) ∷ [])
 
 abbrev pub range_type_pieces : Word → Bound → Bound → List Piece
 range_type_pieces name lo hi = token (codes "type") ∷ token name.text ∷ token (codes "=") ∷ range_pieces lo hi
@@ -153,7 +155,8 @@ abbrev pub held_pieces : SectionWord → Word → Expr → Bound → List Piece
 held_pieces side name cond hold = memory_head side (codes "held") name ++ (expr_pieces cond ++ token (codes ",") ∷ hold_pieces hold)
 
 abbrev pub band_pieces : Bound → Bound → Bool → List Piece
-band_pieces lo hi start = bound_pieces lo ++ token (codes ",") ∷ (bound_pieces hi ++ token (codes ",") ∷ token (truth_word start) ∷ token (codes ")") ∷ [])
+band_pieces lo hi start = bound_pieces lo ++ token (codes ",") ∷ (bound_pieces hi ++ token (codes ",") ∷ token (truth_word start)
+    ∷ token (codes ")") ∷ [])
 
 abbrev pub hyst_pieces : SectionWord → Word → Expr → Bound → Bound → Bool → List Piece
 hyst_pieces side name term lo hi start =
@@ -176,8 +179,10 @@ item_lines (EnumType name members) = one_line (enum_type_pieces name members)
 item_lines (Variable word name of init) = one_line (variable_pieces word name of init)
 item_lines (Held side name cond hold) = one_line (held_pieces side name cond hold)
 item_lines (Hyst side name term lo hi start) = one_line (hyst_pieces side name term lo hi start)
-item_lines (Normal section target columns rows) = table_lines row_line (table_head section (codes "normal") target) (codes "columns") columns rows
-item_lines (Inverted section target terms rows) = table_lines row_line (table_head section (codes "inverted") target) (codes "terms") terms rows
+item_lines (Normal section target columns rows) = table_lines row_line (table_head section (codes "normal") target) (codes "columns")
+    columns rows
+item_lines (Inverted section target terms rows) = table_lines row_line (table_head section (codes "inverted") target) (codes "terms") terms
+    rows
 item_lines (Vector section columns rows) = table_lines vrow_line (vector_head section) (codes "columns") columns rows
 item_lines (Nat moment cond) = one_line (nat_pieces moment cond)
 item_lines (Block name takes uses facts) = block_lines name takes uses facts

@@ -47,15 +47,19 @@ module _ (R S : RattleType) (h : R.Denot → S.Denot) where
   unfolding part_of
   of_box a = record {
     mir_same = λ i. (box_row (one_value R (a.mir_same i) (λ _. ftrue) (λ _ _. nothing) gnil)).mir;
-    own_same = λ boxed i. (box_row (one_value R (a.mir_same i) (a.own_same boxed.value i) (a.shr_same boxed.value i) gnil)).own_val (round boxed tt);
-    shr_same = λ boxed i. (box_row (one_value R (a.mir_same i) (a.own_same boxed.value i) (a.shr_same boxed.value i) gnil)).shr_at (round boxed tt);
+    own_same = λ boxed i. (box_row (one_value R (a.mir_same i) (a.own_same boxed.value i) (a.shr_same boxed.value i) gnil)).own_val
+        (round boxed tt);
+    shr_same = λ boxed i. (box_row (one_value R (a.mir_same i) (a.own_same boxed.value i) (a.shr_same boxed.value i) gnil)).shr_at
+        (round boxed tt);
   }
 
   pub the_places : Alike R S h → Alike (outer.the_row R) (outer.the_row S) ((the_former this).map R.Denot S.Denot h)
-  the_places a = view_places the_fields this seen.view (λ X Y k u. refl) (λ X u. refl) R.Denot S.Denot h (outer.the_row R).coded (outer.the_row S).coded
+  the_places a = view_places the_fields this seen.view (λ X Y k u. refl) (λ X u. refl) R.Denot S.Denot h (outer.the_row R).coded
+      (outer.the_row S).coded
       (seen.invariant R.Denot) (seen.invariant S.Denot) (λ u p q. refl) (λ u p q. refl) (λ u e. tt) (λ u e. tt)
       (over (inner.the_row R)) (over (inner.the_row S))
-      (struct_places (inner.the_type R) (inner.the_type S) ((λ boxed. round boxed (h boxed.value)), tt) _ (λ d. refl) refl (laid _ _ _ (of_box a), tt))
+      (struct_places (inner.the_type R) (inner.the_type S) ((λ boxed. round boxed (h boxed.value)), tt) _ (λ d. refl) refl
+      (laid _ _ _ (of_box a), tt))
 
   pub the_codes_placed : Recodes R S h → Recodes (outer.the_row R) (outer.the_row S) ((the_former this).map R.Denot S.Denot h)
   the_codes_placed e value = e value

@@ -37,14 +37,17 @@ the_empty = []
 
 -- the one field, a vector
 abbrev the_fields : Former {0}
-the_fields = via (vec.the_former this Global) inside.Inside (λ X fields. fields.items) (λ X items. record { items = items }) (λ X fields. refl) (λ X items. refl)
+the_fields = via (vec.the_former this Global) inside.Inside (λ X fields. fields.items) (λ X items. record { items = items })
+    (λ X fields. refl) (λ X items. refl)
 
 module _ (R S : RattleType) (h : R.Denot → S.Denot) where
   pub the_places : Alike R S h → Alike (outer.the_row R) (outer.the_row S) ((the_former this).map R.Denot S.Denot h)
-  the_places a = view_places the_fields (list this) seen.view (λ X Y k u. refl) (λ X u. refl) R.Denot S.Denot h (outer.the_row R).coded (outer.the_row S).coded
+  the_places a = view_places the_fields (list this) seen.view (λ X Y k u. refl) (λ X u. refl) R.Denot S.Denot h (outer.the_row R).coded
+      (outer.the_row S).coded
       (seen.invariant R.Denot) (seen.invariant S.Denot) (λ u p q. refl) (λ u p q. refl) (λ u e. tt) (λ u e. tt)
       (over (inner.the_row R)) (over (inner.the_row S))
-      (struct_places (inner.the_type R) (inner.the_type S) (vec.mapped h, tt) _ (λ d. refl) refl (laid _ _ _ (vec.the_places global.the_row allocator.ghosts R S h a), tt))
+      (struct_places (inner.the_type R) (inner.the_type S) (vec.mapped h, tt) _ (λ d. refl) refl
+      (laid _ _ _ (vec.the_places global.the_row allocator.ghosts R S h a), tt))
 
   pub the_codes_placed : Recodes R S h → Recodes (outer.the_row R) (outer.the_row S) ((the_former this).map R.Denot S.Denot h)
   the_codes_placed e d = sym (code_map R.coded.code S.coded.code h (λ x. sym (e x)) d)

@@ -5,4 +5,5 @@ use Rattle.ft_diff.proofs.cycle.is_negative_cycle.Given as goal
 
 -- every solution keeps the first number within this total of the one that is reached
 abbrev pub invariant-loop-turn : goal.invariant-loop-turn
-invariant-loop-turn l = ((x : ℕ → ℤ) → All (Meets x) l.list → x l.start ≤ℤ (x l.unknown +ℤ l.total)) × (unsigned_abs l.total ≤ difference_most * l.turn)
+invariant-loop-turn l = ((x : ℕ → ℤ) → All (Meets x) l.list → x l.start ≤ℤ (x l.unknown +ℤ l.total))
+    × (unsigned_abs l.total ≤ difference_most * l.turn)

@@ -11,9 +11,13 @@ atoms-preserved c =
     let f = c.args.formula.now in
     let p = c.args.part.now in
     let got : slice_get f.atoms c.atoms.at ≡ Some c.form-item.result =
-    ap (λ (ls : List LinView). slice_get ls c.atoms.at) (sym c.atoms-form-items.ensures) ∙ slice_get_read c.atoms-form-items.result.now _ c.atoms.at c.form-item.result refl (omega arith) c.form-item.is in
+    ap (λ (ls : List LinView). slice_get ls c.atoms.at) (sym c.atoms-form-items.ensures)
+    ∙ slice_get_read c.atoms-form-items.result.now _ c.atoms.at c.form-item.result refl (omega arith) c.form-item.is in
     record {
-      lines = c.add_atom-count.ensures.lines ∙ ap (λ (ds : List Diff). ds ++ (line_if c.is_forced-yes.result (form_diff true (Some c.form-item.result)) ++ line_if c.is_forced-no.result (form_diff false (Some c.form-item.result)))) c.atoms.invariant.lines ∙ sym (lines-more f p c.atoms.at c.form-item.result _ _ got c.is_forced-yes.ensures c.is_forced-no.ensures);
+      lines = c.add_atom-count.ensures.lines ∙ ap (λ (ds : List Diff). ds
+          ++ (line_if c.is_forced-yes.result (form_diff true (Some c.form-item.result))
+          ++ line_if c.is_forced-no.result (form_diff false (Some c.form-item.result)))) c.atoms.invariant.lines
+          ∙ sym (lines-more f p c.atoms.at c.form-item.result _ _ got c.is_forced-yes.ensures c.is_forced-no.ensures);
       few = omega (arith, c.add_atom-count.ensures.few, c.atoms.invariant.few);
       over = c.add_atom-count.ensures.over _ c.atoms.invariant.over (over-form _ f c.atoms.at c.form-item.result c.requires.over got);
     }

@@ -16,7 +16,8 @@ pub returns-clause-none : goal.returns-clause-none
 returns-clause-none c so x solves =
     c.differences.ensures.none so x (record {
       inside = subst (λ (spans : List (ℤ × ℤ)). InArea spans x) (sym c.area.ensures) solves.inside;
-      met = subst (λ (ds : List Diff). All (Meets x) ds) (sym c.gather-count.ensures.lines) (lines-met c.args.formula.now c.args.part.now x (length c.args.formula.now.atoms) solves);
+      met = subst (λ (ds : List Diff). All (Meets x) ds) (sym c.gather-count.ensures.lines)
+          (lines-met c.args.formula.now c.args.part.now x (length c.args.formula.now.atoms) solves);
     })
 
 pub returns-clause-no_point : goal.returns-clause-no_point
@@ -24,5 +25,6 @@ returns-clause-no_point c so x point sat =
     c.differences.ensures.none so x (record {
       inside = subst (λ (spans : List (ℤ × ℤ)). InArea spans x) (sym c.area.ensures) point.0;
       met = subst (λ (ds : List Diff). All (Meets x) ds) (sym c.gather-count.ensures.lines)
-          (lines-met c.args.formula.now c.args.part.now x (length c.args.formula.now.atoms) (c.part_laws.ensures.differences c.args.formula.now c.args.part.now x c.requires.over point sat));
+          (lines-met c.args.formula.now c.args.part.now x (length c.args.formula.now.atoms)
+          (c.part_laws.ensures.differences c.args.formula.now c.args.part.now x c.requires.over point sat));
     })

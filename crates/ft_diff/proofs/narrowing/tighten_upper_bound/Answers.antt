@@ -8,7 +8,8 @@ use mir.Val.{SFits}
 use Rattle.ft_diff.proofs.narrowing.tighten_upper_bound.Goals as goal
 
 span-is : (c : goal.In-Some) → c.index-spans-unknown.result ≡ span_at c.args.spans.now c.args.unknown
-span-is c = c.index-spans-unknown.is ∙ get_or_default c.args.spans.now c.args.unknown c.index-spans-unknown.result (pos 0, pos 0) c.requires.within
+span-is c = c.index-spans-unknown.is ∙ get_or_default c.args.spans.now c.args.unknown c.index-spans-unknown.result (pos 0, pos 0)
+    c.requires.within
 
 bound-fits : (c : goal.In-Some) → SFits w64 c.args.bound
 bound-fits c = search rules
@@ -26,21 +27,25 @@ less c =
     grind (arith, ints, f, last, (bound-fits c), c.hi.ensures.value, c.if-hi-bound.false)
 
 part-is : (c : goal.In-Some) → c.in-Some.part ≡ ((span_at c.args.spans.now c.args.unknown).0, c.args.bound)
-part-is c = c.in-Some.ensures.some.1 ∙ ap (λ (z : ℤ). (c.index-spans-unknown.result.0, z)) (to_z-of_z w64 c.args.bound (bound-fits c)) ∙ ap (λ (s : ℤ × ℤ). (s.0, c.args.bound)) (span-is c)
+part-is c = c.in-Some.ensures.some.1 ∙ ap (λ (z : ℤ). (c.index-spans-unknown.result.0, z)) (to_z-of_z w64 c.args.bound (bound-fits c))
+    ∙ ap (λ (s : ℤ × ℤ). (s.0, c.args.bound)) (span-is c)
 
 pub returns-in-Some-clause-outcome : goal.returns-in-Some-clause-outcome
 returns-in-Some-clause-outcome c =
-    subst (λ (p : ℤ × ℤ). Narrows (λ x. x c.args.unknown ≤ℤ c.args.bound) c.args.spans.now (slice_set c.args.spans.now c.args.unknown p)) (sym (part-is c))
+    subst (λ (p : ℤ × ℤ). Narrows (λ x. x c.args.unknown ≤ℤ c.args.bound) c.args.spans.now (slice_set c.args.spans.now c.args.unknown p))
+    (sym (part-is c))
     (lowered c.args.spans.now c.args.unknown c.args.bound c.requires.within (low c) (less c))
 
 pub returns-in-Some-clause-high : goal.returns-in-Some-clause-high
 returns-in-Some-clause-high c =
-    subst (λ (p : ℤ × ℤ). InArea (slice_set c.args.spans.now c.args.unknown p) (highs (slice_set c.args.spans.now c.args.unknown p))) (sym (part-is c))
+    subst (λ (p : ℤ × ℤ). InArea (slice_set c.args.spans.now c.args.unknown p) (highs (slice_set c.args.spans.now c.args.unknown p)))
+    (sym (part-is c))
     (lowered-high c.args.spans.now c.args.unknown c.args.bound c.requires.within (low c) c.requires.high)
 
 pub returns-in-None-clause-outcome : goal.returns-in-None-clause-outcome
 returns-in-None-clause-outcome c =
-    let same : c.index-spans-unknown.result ≡ span_at c.args.spans.now c.args.unknown = c.index-spans-unknown.is ∙ get_or_default c.args.spans.now c.args.unknown c.index-spans-unknown.result (pos 0, pos 0) c.requires.within in
+    let same : c.index-spans-unknown.result ≡ span_at c.args.spans.now c.args.unknown = c.index-spans-unknown.is
+    ∙ get_or_default c.args.spans.now c.args.unknown c.index-spans-unknown.result (pos 0, pos 0) c.requires.within in
     let first = ap (λ (s : ℤ × ℤ). s.0) same in
     let f : SFits w64 c.args.bound = search rules in
     let is = to_z-of_z w64 c.args.bound f in

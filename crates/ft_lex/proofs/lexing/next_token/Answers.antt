@@ -17,8 +17,10 @@ pub overflow_add-result : goal.overflow_add-result
 overflow_add-result c =
     let text = c.args.text.now in
     let start = c.args.from + c.space.result in
-    let counted : c.space.result ≤ length (drop c.args.from text) = subst (λ (l : List ℕ). c.space.result ≤ length l) (rest-is text c.args.from) c.space.ensures.within in
-    let shape = subst (λ (s : Shape). IsShape s.0 (drop start text) s.1) (ap shape_of (sym (rest-is text start)) ∙ sym c.shape-kind.ensures) (shape-is (drop start text)) in
+    let counted : c.space.result ≤ length (drop c.args.from text) = subst (λ (l : List ℕ). c.space.result ≤ length l)
+    (rest-is text c.args.from) c.space.ensures.within in
+    let shape = subst (λ (s : Shape). IsShape s.0 (drop start text) s.1) (ap shape_of (sym (rest-is text start)) ∙ sym c.shape-kind.ensures)
+    (shape-is (drop start text)) in
     omega (arith, counted, length-drop c.args.from text, length-drop start text, shape-within _ (drop start text) _ shape)
 
 pub returns : goal.returns
@@ -27,11 +29,14 @@ returns c =
     let from = c.args.from in
     let start = from + c.space.result in
     let bytes = drop from text in
-    let counted : c.space.result ≤ length bytes = subst (λ (l : List ℕ). c.space.result ≤ length l) (rest-is text from) c.space.ensures.within in
+    let counted : c.space.result ≤ length bytes = subst (λ (l : List ℕ). c.space.result ≤ length l) (rest-is text from)
+    c.space.ensures.within in
     let len : c.space.result ≡ space_len bytes = c.space.ensures.length ∙ ap space_len (rest-is text from) in
-    let shape = subst (λ (s : Shape). IsShape s.0 (drop start text) s.1) (ap shape_of (sym (rest-is text start)) ∙ sym c.shape-kind.ensures) (shape-is (drop start text)) in
+    let shape = subst (λ (s : Shape). IsShape s.0 (drop start text) s.1) (ap shape_of (sym (rest-is text start)) ∙ sym c.shape-kind.ensures)
+    (shape-is (drop start text)) in
     let size = shape-within _ (drop start text) _ shape in
-    let skipped : drop (space_len bytes) bytes ≡ drop start text = drop-drop (space_len bytes) from text ∙ ap (λ (n : ℕ). drop (from + n) text) (sym len) in
+    let skipped : drop (space_len bytes) bytes ≡ drop start text = drop-drop (space_len bytes) from text
+    ∙ ap (λ (n : ℕ). drop (from + n) text) (sym len) in
     let back : start + c.shape-kind.result.1 - start ≡ c.shape-kind.result.1 = omega arith in
     record {
       follows = omega arith;

@@ -13,7 +13,8 @@ returns-then-is_last-clause-only c = λ others h.
 pub returns-then-is_last-clause-tokens : goal.returns-then-is_last-clause-tokens
 returns-then-is_last-clause-tokens c =
     let ends = sym c.is_last.ensures ∙ c.if-is_last.true in
-    subst (λ (l : List Token). IsTokens c.args.text.now l) (sym c.in_ok-push.ensures.ok) (read-all _ _ _ _ c.loop-list.invariant.read c.next_token-token.ensures ends)
+    subst (λ (l : List Token). IsTokens c.args.text.now l) (sym c.in_ok-push.ensures.ok)
+    (read-all _ _ _ _ c.loop-list.invariant.read c.next_token-token.ensures ends)
 
 pub returns-then-is_last-clause-spans : goal.returns-then-is_last-clause-spans
 returns-then-is_last-clause-spans c =
@@ -24,7 +25,12 @@ returns-then-is_last-clause-spans c =
 pub loop-list-smaller : goal.loop-list-smaller
 loop-list-smaller c =
     let goes = sym c.is_last.ensures ∙ c.if-is_last.false in
-    omega (arith, next-some _ _ _ c.next_token-token.ensures goes, c.next_token-token.ensures.follows, c.next_token-token.ensures.lies.within)
+    omega (
+      arith,
+      next-some _ _ _ c.next_token-token.ensures goes,
+      c.next_token-token.ensures.follows,
+      c.next_token-token.ensures.lies.within,
+    )
 
 pub loop-list-preserved : goal.loop-list-preserved
 loop-list-preserved c =

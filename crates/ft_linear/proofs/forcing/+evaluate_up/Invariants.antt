@@ -8,7 +8,8 @@ use Rattle.ft_linear.proofs.forcing.+evaluate_up.Given as goal
 
 -- the parts before this one have their slots
 abbrev pub invariant-evaluate_parts-loop-part : goal.invariant-evaluate_parts-loop-part
-invariant-evaluate_parts-loop-part l = IsWritten (flat_map (slots_of (value_at l.values)) (take l.part-index l.parts)) l.at l.next l.initial.slots l.slots
+invariant-evaluate_parts-loop-part l = IsWritten (flat_map (slots_of (value_at l.values)) (take l.part-index l.parts)) l.at l.next
+    l.initial.slots l.slots
     × (l.no ≡ count_by is_no (map (value_of (value_at l.values)) (take l.part-index l.parts)))
     × (l.yes ≡ count_by is_yes (map (value_of (value_at l.values)) (take l.part-index l.parts)))
     × (length l.slots ≡ length l.initial.slots)

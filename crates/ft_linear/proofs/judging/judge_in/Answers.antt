@@ -20,8 +20,10 @@ pub returns-clause-signs : goal.returns-clause-signs
 returns-clause-signs c =
     let f = c.args.formula.now in
     let p = c.args.part.now in
-    let same : (a : ℕ) → value_at c.weigh-weighed.new.values a ≡ atom_value f p a = values-same f p c.requires.atoms.decided c.weigh-weighed.new.values (omega arith) c.weigh-weighed.ensures.values in
-    let adds = subst (λ (n : Node). Adds (forces (value_at c.weigh-weighed.new.values) n true) c.weigh-weighed.new.signs c.mark_forced-root.new.signs) c.root.ensures.value c.mark_forced-root.ensures.forced in
+    let same : (a : ℕ) → value_at c.weigh-weighed.new.values a ≡ atom_value f p a =
+    values-same f p c.requires.atoms.decided c.weigh-weighed.new.values (omega arith) c.weigh-weighed.ensures.values in
+    let adds = subst (λ (n : Node). Adds (forces (value_at c.weigh-weighed.new.values) n true) c.weigh-weighed.new.signs
+    c.mark_forced-root.new.signs) c.root.ensures.value c.mark_forced-root.ensures.forced in
     signs-are f p c.weigh-weighed.new.signs c.mark_forced-root.new.signs (omega arith) c.weigh-weighed.ensures.signs
     (subst (λ (v : ℕ → Three). Adds (forces v f.root true) c.weigh-weighed.new.signs c.mark_forced-root.new.signs) (λ i a. same a i) adds)
 
@@ -29,10 +31,16 @@ pub returns-clause-truth : goal.returns-clause-truth
 returns-clause-truth c =
     let f = c.args.formula.now in
     let p = c.args.part.now in
-    let same : (a : ℕ) → value_at c.weigh-weighed.new.values a ≡ atom_value f p a = values-same f p c.requires.atoms.decided c.weigh-weighed.new.values (omega arith) c.weigh-weighed.ensures.values in
-    let adds = subst (λ (n : Node). Adds (forces (value_at c.weigh-weighed.new.values) n true) c.weigh-weighed.new.signs c.mark_forced-root.new.signs) c.root.ensures.value c.mark_forced-root.ensures.forced in
-    let both = c.any_both_ways.ensures ∙ any-both f p c.weigh-weighed.new.signs c.mark_forced-root.new.signs (omega arith) c.weigh-weighed.ensures.signs
-    (subst (λ (v : ℕ → Three). Adds (forces v f.root true) c.weigh-weighed.new.signs c.mark_forced-root.new.signs) (λ i a. same a i) adds) in
+    let same : (a : ℕ) → value_at c.weigh-weighed.new.values a ≡ atom_value f p a =
+    values-same f p c.requires.atoms.decided c.weigh-weighed.new.values (omega arith) c.weigh-weighed.ensures.values in
+    let adds = subst (λ (n : Node). Adds (forces (value_at c.weigh-weighed.new.values) n true) c.weigh-weighed.new.signs
+    c.mark_forced-root.new.signs) c.root.ensures.value c.mark_forced-root.ensures.forced in
+    let both = c.any_both_ways.ensures ∙ any-both f p c.weigh-weighed.new.signs c.mark_forced-root.new.signs (omega arith)
+    c.weigh-weighed.ensures.signs
+    (subst (λ (v : ℕ → Three). Adds (forces v f.root true) c.weigh-weighed.new.signs c.mark_forced-root.new.signs) (λ i a. same a i) adds)
+    in
     let root : c.mark_forced-root.result ≡ value_of (atom_value f p) f.root =
-    c.mark_forced-root.ensures.value ∙ ap (value_of (value_at c.weigh-weighed.new.values)) c.root.ensures.value ∙ (λ i. value_of (λ a. same a i) f.root) in
-    c.truth_by.ensures ∙ (λ i. cond (is_no (root i) || c.weigh-weighed.ensures.against i || both i) No (cond (is_yes (root i) && c.weigh-weighed.ensures.agreed i) Yes Maybe))
+    c.mark_forced-root.ensures.value ∙ ap (value_of (value_at c.weigh-weighed.new.values)) c.root.ensures.value
+    ∙ (λ i. value_of (λ a. same a i) f.root) in
+    c.truth_by.ensures ∙ (λ i. cond (is_no (root i) || c.weigh-weighed.ensures.against i || both i) No
+    (cond (is_yes (root i) && c.weigh-weighed.ensures.agreed i) Yes Maybe))

@@ -11,7 +11,9 @@ returns-then-factor-unknown-clause-value c =
     let i = c.loop-factor.factor-index in
     let d : Factor = (0, pos 0) in
     small-same (slice_index_or fs i d).1 (small-at 0 fs i d c.requires c.loop-factor-test.true)
-    ∙ sym (c.loop-factor.invariant ∙ ap (λ u. factor_of u (drop i fs)) (sym c.if-factor-unknown.true) ∙ first-found 0 fs i d c.requires c.loop-factor-test.true)
+    ∙ sym (c.loop-factor.invariant ∙ ap (λ u. factor_of u (drop i fs)) (sym c.if-factor-unknown.true)
+    ∙ first-found 0 fs i d c.requires c.loop-factor-test.true)
 
 pub returns-then-factor-unknown-clause-small : goal.returns-then-factor-unknown-clause-small
-returns-then-factor-unknown-clause-small c = small-read (slice_index_or c.args.factors.now c.loop-factor.factor-index (0, pos 0)).1 (small-at 0 c.args.factors.now c.loop-factor.factor-index (0, pos 0) c.requires c.loop-factor-test.true)
+returns-then-factor-unknown-clause-small c = small-read (slice_index_or c.args.factors.now c.loop-factor.factor-index (0, pos 0)).1
+    (small-at 0 c.args.factors.now c.loop-factor.factor-index (0, pos 0) c.requires c.loop-factor-test.true)

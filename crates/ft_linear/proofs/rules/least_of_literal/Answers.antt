@@ -13,4 +13,6 @@ returns-else-value-clause-value c =
     let fits : SFits w128 c.most_of.result = search rules in
     let value = to_z-of_z w128 c.most_of.result fits ∙ c.most_of.ensures.value ∙ ap (most spans) c.factors-else-value.ensures.value in
     let fits_opposite : SFits w128 c.opposite.result = search rules in
-    to_z-of_z w128 c.opposite.result fits_opposite ∙ c.opposite.ensures.value ∙ ap neg_ℤ value ∙ sym (literal-least spans c.args.value form ∙ ap (λ b. cond b (least spans form.factors) (neg_ℤ (most spans form.factors))) c.if-value.false)
+    to_z-of_z w128 c.opposite.result fits_opposite ∙ c.opposite.ensures.value ∙ ap neg_ℤ value
+    ∙ sym (literal-least spans c.args.value form ∙ ap (λ b. cond b (least spans form.factors) (neg_ℤ (most spans form.factors)))
+    c.if-value.false)

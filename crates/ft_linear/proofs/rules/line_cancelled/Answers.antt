@@ -6,5 +6,6 @@ use Rattle.ft_linear.proofs.rules.line_cancelled.Goals as goal
 pub returns-in-Atom : goal.returns-in-Atom
 returns-in-Atom c =
     c.are_cancelled.ensures ∙ ap (are_cancelled c.args.formula.now c.args.part.now c.args.lines.now c.args.kept) c.factors.ensures.value
-    ∙ literal-cancelled c.args.formula.now c.args.part.now c.in-Atom.number c.in-Atom.value c.in-Atom.times c.index-atoms-number.result c.args.line.now c.in-Atom.is c.requires.one
+    ∙ literal-cancelled c.args.formula.now c.args.part.now c.in-Atom.number c.in-Atom.value c.in-Atom.times c.index-atoms-number.result
+    c.args.line.now c.in-Atom.is c.requires.one
     c.atoms.result.now c.atoms.ensures c.index-atoms-number.is c.args.lines.now c.args.kept

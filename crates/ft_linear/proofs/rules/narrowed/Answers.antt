@@ -14,9 +14,11 @@ returns-then-g-gt0 c =
     let fits : SFits w128 c.floor.result = search rules in
     let fits_most : SFits w128 c.opposite-most.result = search rules in
     let g = to_z-of_z w128 c.args.g fits_g in
-    let most = to_z-of_z w128 c.opposite-most.result fits_most ∙ c.opposite-most.ensures.value ∙ ap neg_ℤ (to_z-of_z w128 c.args.c fits_c) in
+    let most = to_z-of_z w128 c.opposite-most.result fits_most ∙ c.opposite-most.ensures.value
+    ∙ ap neg_ℤ (to_z-of_z w128 c.args.c fits_c) in
     let above : pos 0 <ℤ c.args.g = rw (sym g) (grind (arith, ints)) in
-    c.up_to.ensures ∙ ap (up_to c.args.span) (to_z-of_z w128 c.floor.result fits ∙ c.floor.ensures.value ∙ (λ i. floor_of (most i) (g i))) ∙ sym (narrowed-up c.args.g c.args.c c.args.span above)
+    c.up_to.ensures ∙ ap (up_to c.args.span) (to_z-of_z w128 c.floor.result fits ∙ c.floor.ensures.value ∙ (λ i. floor_of (most i) (g i)))
+    ∙ sym (narrowed-up c.args.g c.args.c c.args.span above)
 
 pub returns-then-g-lt0 : goal.returns-then-g-lt0
 returns-then-g-lt0 c =
@@ -27,8 +29,11 @@ returns-then-g-lt0 c =
     let fits_divisor : SFits w128 c.opposite.result = search rules in
     let fits_least : SFits w128 c.opposite-then-g-lt0.result = search rules in
     let g = to_z-of_z w128 c.args.g fits_g in
-    let most = to_z-of_z w128 c.opposite-most.result fits_most ∙ c.opposite-most.ensures.value ∙ ap neg_ℤ (to_z-of_z w128 c.args.c fits_c) in
+    let most = to_z-of_z w128 c.opposite-most.result fits_most ∙ c.opposite-most.ensures.value
+    ∙ ap neg_ℤ (to_z-of_z w128 c.args.c fits_c) in
     let divisor = to_z-of_z w128 c.opposite.result fits_divisor ∙ c.opposite.ensures.value ∙ ap neg_ℤ g in
-    let quotient = to_z-of_z w128 c.floor-then-g-lt0.result fits ∙ c.floor-then-g-lt0.ensures.value ∙ (λ i. floor_of (most i) (divisor i)) in
+    let quotient = to_z-of_z w128 c.floor-then-g-lt0.result fits ∙ c.floor-then-g-lt0.ensures.value
+    ∙ (λ i. floor_of (most i) (divisor i)) in
     let below : c.args.g <ℤ pos 0 = rw (sym g) (grind (arith, ints)) in
-    c.down_to.ensures ∙ ap (down_to c.args.span) (to_z-of_z w128 c.opposite-then-g-lt0.result fits_least ∙ c.opposite-then-g-lt0.ensures.value ∙ ap neg_ℤ quotient) ∙ sym (narrowed-down c.args.g c.args.c c.args.span below)
+    c.down_to.ensures ∙ ap (down_to c.args.span) (to_z-of_z w128 c.opposite-then-g-lt0.result fits_least
+    ∙ c.opposite-then-g-lt0.ensures.value ∙ ap neg_ℤ quotient) ∙ sym (narrowed-down c.args.g c.args.c c.args.span below)

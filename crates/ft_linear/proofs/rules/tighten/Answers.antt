@@ -21,7 +21,8 @@ returns-clause-within c = IfSome_each c.narrowed.result (λ t e x area holds.
     let fits_constant : SFits w128 c.total_constant.result = search rules in
     let factor = to_z-of_z w128 c.total_factor.result fits_factor ∙ c.total_factor.ensures.value in
     let constant = to_z-of_z w128 c.total_constant.result fits_constant ∙ c.total_constant.ensures.value in
-    let span = get_or_read c.as_slice-spans.result.now u c.index-spans-unknown.result (omega arith) c.index-spans-unknown.is (pos 0, pos 0) ∙ ap (λ l. span_at l u) spans in
+    let span = get_or_read c.as_slice-spans.result.now u c.index-spans-unknown.result (omega arith) c.index-spans-unknown.is (pos 0, pos 0)
+    ∙ ap (λ l. span_at l u) spans in
     within-tightened f p x area holds u c.args.lines.now t (in-span p.spans x u area (omega (arith, long))) (record {
       unknown = omega (arith, long);
       lines = sym c.are_lines.ensures ∙ c.if-not-are_lines.false;

@@ -15,10 +15,14 @@ lines-preserved c =
     let d : Line = Atom 0 false 0 in
     let l : Line = slice_index_or c.args.lines.now c.lines.at d in
     let fits_read : SFits w64 c.line_factor-factor.result = search rules in
-    let term : c.product.result ≡ pos (times_of l) *ℤ factor_of c.args.unknown (factors_in (line_form f p l)) = c.product.ensures.value ∙ (λ i. pos (c.times_of.ensures i) *ℤ (to_z-of_z w64 c.line_factor-factor.result fits_read ∙ c.line_factor-factor.ensures.value) i) in
+    let term : c.product.result ≡ pos (times_of l) *ℤ factor_of c.args.unknown (factors_in (line_form f p l)) = c.product.ensures.value
+    ∙ (λ i. pos (c.times_of.ensures i) *ℤ (to_z-of_z w64 c.line_factor-factor.result fits_read ∙ c.line_factor-factor.ensures.value) i)
+    in
     let fits : SFits w128 c.plus-total.result = search rules in
     let fits_term : SFits w128 c.product.result = search rules in
     let sum = rw (to_z-of_z w128 c.product.result fits_term) at c.plus-total.ensures.sum in
     let before = c.lines.invariant.0 in
-    rw (to_z-of_z w128 c.plus-total.result fits)
-    (sum ∙ (λ i. before i +ℤ term i) ∙ sym (factor-more f p c.args.lines.now c.lines.at d c.lines-test.true c.args.unknown), c.plus-total.ensures.small)
+    rw (to_z-of_z w128 c.plus-total.result fits) (
+      sum ∙ (λ i. before i +ℤ term i) ∙ sym (factor-more f p c.args.lines.now c.lines.at d c.lines-test.true c.args.unknown),
+      c.plus-total.ensures.small,
+    )

@@ -10,4 +10,5 @@ loop-alloc-smaller c =
     let tested : begins (can as_fact_word) c.loop-alloc.cursor.rest ≡ true = search rules in
     let read : one_more (fact_part_by c.args.before.now) c.loop-alloc.facts c.loop-alloc.cursor
     ≡ (Ok c.more_facts-in-loop-alloc.new.facts, c.more_facts-in-loop-alloc.new.cursor) = search rules in
-    facts_less c.args.before.now c.loop-alloc.facts c.more_facts-in-loop-alloc.new.facts c.loop-alloc.cursor c.more_facts-in-loop-alloc.new.cursor tested read
+    facts_less c.args.before.now c.loop-alloc.facts c.more_facts-in-loop-alloc.new.facts c.loop-alloc.cursor
+    c.more_facts-in-loop-alloc.new.cursor tested read

@@ -47,8 +47,10 @@ decreases-group l = 32 * l.room + 2
 
 abbrev pub invariant-chain-loop-alloc : goal.invariant-chain-loop-alloc
 invariant-chain-loop-alloc l =
-    many (can (ops_of l.precedence)) (right_by l.site (ops_of l.precedence) (operand_by l.precedence l.site (inner_by l.room l.site) l.room)) l.initial.left l.initial.cursor
-    ≡ many (can (ops_of l.precedence)) (right_by l.site (ops_of l.precedence) (operand_by l.precedence l.site (inner_by l.room l.site) l.room)) l.left l.cursor
+    many (can (ops_of l.precedence)) (right_by l.site (ops_of l.precedence)
+    (operand_by l.precedence l.site (inner_by l.room l.site) l.room)) l.initial.left l.initial.cursor
+    ≡ many (can (ops_of l.precedence)) (right_by l.site (ops_of l.precedence)
+    (operand_by l.precedence l.site (inner_by l.room l.site) l.room)) l.left l.cursor
 
 abbrev pub decreases-chain-loop-alloc : goal.decreases-chain-loop-alloc
 decreases-chain-loop-alloc l = length l.cursor.rest

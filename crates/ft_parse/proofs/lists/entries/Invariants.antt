@@ -7,7 +7,8 @@ use Rattle.ft_parse.proofs.lists.entries.Given as goal
 
 abbrev pub invariant-loop-alloc : goal.invariant-loop-alloc
 invariant-loop-alloc l =
-    many (can (as_sign (codes ","))) more_entries_by l.initial.entries l.initial.cursor ≡ many (can (as_sign (codes ","))) more_entries_by l.entries l.cursor
+    many (can (as_sign (codes ","))) more_entries_by l.initial.entries l.initial.cursor
+    ≡ many (can (as_sign (codes ","))) more_entries_by l.entries l.cursor
 
 abbrev pub decreases-loop-alloc : goal.decreases-loop-alloc
 decreases-loop-alloc l = length l.cursor.rest

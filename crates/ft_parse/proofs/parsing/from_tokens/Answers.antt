@@ -6,7 +6,8 @@ use Rattle.ft_parse.proofs.parsing.from_tokens.Goals as goal
 
 pub tree-requires : goal.tree-requires
 tree-requires c =
-    read-lawful c.args.text.now c.args.tokens.now c.requires.tokens c.in-Ok.parts c.set.new.cursor (ap set_by (sym c.new-cursor.ensures) ∙ c.in-Ok.ensures)
+    read-lawful c.args.text.now c.args.tokens.now c.requires.tokens c.in-Ok.parts c.set.new.cursor
+    (ap set_by (sym c.new-cursor.ensures) ∙ c.in-Ok.ensures)
 
 pub fault-requires : goal.fault-requires
 fault-requires c =
@@ -20,12 +21,14 @@ returns-in-Ok-clause-spelled c =
 
 pub returns-in-Ok-clause-only : goal.returns-in-Ok-clause-only
 returns-in-Ok-clause-only c =
-    λ tree s. read-only c.args.text.now c.args.tokens.now c.requires.tokens c.requires.sole c.in-Ok.parts c.set.new.cursor c.tree.result tree
+    λ tree s. read-only c.args.text.now c.args.tokens.now c.requires.tokens c.requires.sole c.in-Ok.parts c.set.new.cursor c.tree.result
+    tree
     (ap set_by (sym c.new-cursor.ensures) ∙ c.in-Ok.ensures) c.tree.ensures s
 
 pub returns-in-Err-clause-only : goal.returns-in-Err-clause-only
 returns-in-Err-clause-only c =
-    λ tree s. read-unless c.args.text.now c.args.tokens.now c.requires.tokens c.requires.sole c.in-Err.stop c.set.new.cursor c.fault.result tree
+    λ tree s. read-unless c.args.text.now c.args.tokens.now c.requires.tokens c.requires.sole c.in-Err.stop c.set.new.cursor c.fault.result
+    tree
     (subst (λ s. Stops c.in-Err.stop c.set.new.cursor (set_by s)) c.new-cursor.ensures c.in-Err.ensures) c.fault.ensures s
 
 pub returns-in-Err-clause-fault : goal.returns-in-Err-clause-fault
@@ -35,10 +38,12 @@ returns-in-Err-clause-fault c =
 
 pub returns-in-Ok-clause-same : goal.returns-in-Ok-clause-same
 returns-in-Ok-clause-same c =
-    λ tree s. read-same c.args.text.now c.args.tokens.now c.requires.tokens c.requires.sole c.canonical_tokens.ensures c.in-Ok.parts c.set.new.cursor c.tree.result tree
+    λ tree s. read-same c.args.text.now c.args.tokens.now c.requires.tokens c.requires.sole c.canonical_tokens.ensures c.in-Ok.parts
+    c.set.new.cursor c.tree.result tree
     (ap set_by (sym c.new-cursor.ensures) ∙ c.in-Ok.ensures) c.tree.ensures s
 
 pub returns-in-Err-clause-same : goal.returns-in-Err-clause-same
 returns-in-Err-clause-same c =
-    λ tree s. same-unless c.args.text.now c.args.tokens.now c.requires.tokens c.requires.sole c.canonical_tokens.ensures c.in-Err.stop c.set.new.cursor c.fault.result tree
+    λ tree s. same-unless c.args.text.now c.args.tokens.now c.requires.tokens c.requires.sole c.canonical_tokens.ensures c.in-Err.stop
+    c.set.new.cursor c.fault.result tree
     (subst (λ s. Stops c.in-Err.stop c.set.new.cursor (set_by s)) c.new-cursor.ensures c.in-Err.ensures) c.fault.ensures s

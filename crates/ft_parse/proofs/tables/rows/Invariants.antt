@@ -8,7 +8,8 @@ use Rattle.ft_parse.proofs.tables.rows.Given as goal
 
 abbrev pub invariant-loop-alloc : goal.invariant-loop-alloc
 invariant-loop-alloc l =
-    many (can (as_word (codes "row"))) (one_more row_by) l.initial.rows l.initial.cursor ≡ many (can (as_word (codes "row"))) (one_more row_by) l.rows l.cursor
+    many (can (as_word (codes "row"))) (one_more row_by) l.initial.rows l.initial.cursor
+    ≡ many (can (as_word (codes "row"))) (one_more row_by) l.rows l.cursor
 
 abbrev pub decreases-loop-alloc : goal.decreases-loop-alloc
 decreases-loop-alloc l = length l.cursor.rest

@@ -20,7 +20,8 @@ the_weighed weighed = w_const ℕ
 abbrev pub the_items : (X : Type 0) → ℕ → List X
 the_items X number = []
 
-pub the_items_listed : (X : Type 0) (number : ℕ) → listed (arity (the_former this) ((the_former this).shape X number)) (children (the_former this) X number) ≡ the_items X number
+pub the_items_listed : (X : Type 0) (number : ℕ) → listed (arity (the_former this) ((the_former this).shape X number))
+    (children (the_former this) X number) ≡ the_items X number
 the_items_listed X number = refl
 
 abbrev pub the_empty : ℕ

@@ -24,19 +24,31 @@ returns-clause-names c = names-set _ _ _ (old c) c.count_read.new.self (place c)
 
 pub returns-clause-reach : goal.returns-clause-reach
 returns-clause-reach c =
-    rw (seen _ _ _ (old c) c.count_read.new.self (place c) (here c) c.count_read.ensures.name, after _ _ _ (old c) c.count_read.new.self (place c) (here c) c.count_read.ensures.name) c.count_read.ensures.reach
+    rw (
+      seen _ _ _ (old c) c.count_read.new.self (place c) (here c) c.count_read.ensures.name,
+      after _ _ _ (old c) c.count_read.new.self (place c) (here c) c.count_read.ensures.name,
+    ) c.count_read.ensures.reach
 
 pub returns-clause-cause : goal.returns-clause-cause
 returns-clause-cause c =
-    rw (seen _ _ _ (old c) c.count_read.new.self (place c) (here c) c.count_read.ensures.name, after _ _ _ (old c) c.count_read.new.self (place c) (here c) c.count_read.ensures.name) c.count_read.ensures.cause
+    rw (
+      seen _ _ _ (old c) c.count_read.new.self (place c) (here c) c.count_read.ensures.name,
+      after _ _ _ (old c) c.count_read.new.self (place c) (here c) c.count_read.ensures.name,
+    ) c.count_read.ensures.cause
 
 pub returns-clause-reads : goal.returns-clause-reads
 returns-clause-reads c =
-    rw (seen _ _ _ (old c) c.count_read.new.self (place c) (here c) c.count_read.ensures.name, after _ _ _ (old c) c.count_read.new.self (place c) (here c) c.count_read.ensures.name) c.count_read.ensures.reads
+    rw (
+      seen _ _ _ (old c) c.count_read.new.self (place c) (here c) c.count_read.ensures.name,
+      after _ _ _ (old c) c.count_read.new.self (place c) (here c) c.count_read.ensures.name,
+    ) c.count_read.ensures.reads
 
 pub returns-clause-others : goal.returns-clause-others
 returns-clause-others c = record {
-  reach = λ other differs. ap (λ e. unwrap_or (option_map (λ entry. entry.reach) e) 0) (others _ _ _ (old c) c.count_read.new.self (place c) (here c) c.count_read.ensures.name other differs);
-  faults = λ other differs. ap (λ e. unwrap_or (option_map (λ entry. entry.faults) e) 0) (others _ _ _ (old c) c.count_read.new.self (place c) (here c) c.count_read.ensures.name other differs);
-  reads = λ other differs. ap (λ e. unwrap_or (option_map (λ entry. entry.reads.list) e) []) (others _ _ _ (old c) c.count_read.new.self (place c) (here c) c.count_read.ensures.name other differs);
+  reach = λ other differs. ap (λ e. unwrap_or (option_map (λ entry. entry.reach) e) 0)
+      (others _ _ _ (old c) c.count_read.new.self (place c) (here c) c.count_read.ensures.name other differs);
+  faults = λ other differs. ap (λ e. unwrap_or (option_map (λ entry. entry.faults) e) 0)
+      (others _ _ _ (old c) c.count_read.new.self (place c) (here c) c.count_read.ensures.name other differs);
+  reads = λ other differs. ap (λ e. unwrap_or (option_map (λ entry. entry.reads.list) e) [])
+      (others _ _ _ (old c) c.count_read.new.self (place c) (here c) c.count_read.ensures.name other differs);
 }

@@ -11,5 +11,6 @@ invariant-loop-turn g l = record {
   content : g.S.Shelf.content l.shelf ≡ g.S.Shelf.content l.fn.shelf;
   faults : g.S.Shelf.faults l.shelf l.name ≡ g.S.Shelf.faults l.fn.shelf l.name;
   reach : g.S.Shelf.reach l.fn.shelf l.name ≤ g.S.Shelf.reach l.shelf l.name;
-  others : OthersStay l.name (g.S.Shelf.reach l.fn.shelf) (g.S.Shelf.reach l.shelf) (g.S.Shelf.faults l.fn.shelf) (g.S.Shelf.faults l.shelf) (g.S.Shelf.reads l.fn.shelf) (g.S.Shelf.reads l.shelf);
+  others : OthersStay l.name (g.S.Shelf.reach l.fn.shelf) (g.S.Shelf.reach l.shelf) (g.S.Shelf.faults l.fn.shelf) (g.S.Shelf.faults l.shelf)
+      (g.S.Shelf.reads l.fn.shelf) (g.S.Shelf.reads l.shelf);
 }

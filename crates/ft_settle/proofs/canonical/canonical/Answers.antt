@@ -27,7 +27,8 @@ of_proper-requires c =
     let small : unsigned_abs c.literal_constant-constant.result ≤ value_most = omega (arith, step, up) in
     record {
       few = let few = proper.few in omega (arith, long, few);
-      rising = subst (AreRising 0) (sym factors) (quotients-rise c.form_laws.ensures.quotient (is_positive fs) (gcd_of fs) 0 fs divides.1 divides.0 proper.rising);
+      rising = subst (AreRising 0) (sym factors) (quotients-rise c.form_laws.ensures.quotient (is_positive fs) (gcd_of fs) 0 fs divides.1
+          divides.0 proper.rising);
       small = subst IsSmall (sym (to_z-of_z w64 c.literal_constant-constant.result fits)) small;
     }
 
@@ -41,6 +42,9 @@ returns c =
     let fits_up : SFits w64 c.rounded_up.result = search rules in
     let fits_constant : SFits w64 c.constant.result = search rules in
     let constant_read = to_z-of_z w64 c.constant.result fits_constant ∙ c.constant.ensures.value in
-    let up = to_z-of_z w64 c.rounded_up.result fits_up ∙ c.rounded_up.ensures.value ∙ (λ i. neg_ℤ (floor_of (neg_ℤ (constant_read i)) (pos (divisor i)))) in
-    let constant = to_z-of_z w64 c.literal_constant-constant.result fits ∙ c.literal_constant-constant.ensures.value ∙ (λ i. cond (sign i) (up i) (pos 1 -ℤ up i)) in
-    c.of_proper.ensures ∙ (λ i. record { factors = factors i; constant = constant i }) ∙ sym (quotients-are (is_positive fs) (gcd_of fs) c.args.form.now)
+    let up = to_z-of_z w64 c.rounded_up.result fits_up ∙ c.rounded_up.ensures.value
+    ∙ (λ i. neg_ℤ (floor_of (neg_ℤ (constant_read i)) (pos (divisor i)))) in
+    let constant = to_z-of_z w64 c.literal_constant-constant.result fits ∙ c.literal_constant-constant.ensures.value
+    ∙ (λ i. cond (sign i) (up i) (pos 1 -ℤ up i)) in
+    c.of_proper.ensures ∙ (λ i. record { factors = factors i; constant = constant i })
+    ∙ sym (quotients-are (is_positive fs) (gcd_of fs) c.args.form.now)

@@ -2,7 +2,8 @@ use Rattle.std.proofs.Common.{rules, ◌∙◌, sym, ap}
 use Rattle.ft_settle.specs.declared.raw.Raw.{the_lemmas}
 use Rattle.ft_settle.specs.meaning.Raw.{is_moderate}
 use Rattle.std.specs.List.{list_all}
-use Rattle.ft_settle.proofs.RawLemmas.{moderate-Le, moderate-Not, moderate-And, moderate-Or, begins-Le, begins-Not, begins-And, begins-Or, forms-Le, forms-Not, forms-And, forms-Or}
+use Rattle.ft_settle.proofs.RawLemmas.{moderate-Le, moderate-Not, moderate-And, moderate-Or, begins-Le, begins-Not, begins-And, begins-Or}
+use Rattle.ft_settle.proofs.RawLemmas.{forms-Le, forms-Not, forms-And, forms-Or}
 use Rattle.ft_settle.proofs.SettleLemmas.{forms-more, begins-more}
 use Rattle.ft_settle.proofs.settling.+collect.Goals as goal
 
@@ -56,6 +57,7 @@ collect_all-loop-part-preserved t c =
     let parts = c.args.parts.now in
     let i = c.loop-part.part-index in
     let part = c.part-item.result in (
-      forms-more c.args.forms.now c.loop-part.forms c.collect.new.forms parts i part c.loop-part-test.true c.part-item.is c.loop-part.invariant.0 c.in_ok-collect.ensures.forms,
+      forms-more c.args.forms.now c.loop-part.forms c.collect.new.forms parts i part c.loop-part-test.true c.part-item.is
+          c.loop-part.invariant.0 c.in_ok-collect.ensures.forms,
       begins-more parts i part c.loop-part-test.true c.part-item.is c.loop-part.invariant.1 c.in_ok-collect.ensures.begins,
     )

@@ -15,4 +15,5 @@ returns c =
     let forms = c.args.forms.now in
     let form = c.args.form.now in
     let past = c.loop-at-test.false in
-    sym (position_or_len_is (same_form form) forms (length forms) form (omega arith) (λ k below. c.loop-at.invariant k form (omega (arith, below, past))) (λ within. absurd (omega (arith, within))))
+    sym (position_or_len_is (same_form form) forms (length forms) form (omega arith)
+    (λ k below. c.loop-at.invariant k form (omega (arith, below, past))) (λ within. absurd (omega (arith, within))))

@@ -11,5 +11,6 @@ pub returns-in_err-bound-in-Err-clause-only : goal.returns-in_err-bound-in-Err-c
 returns-in_err-bound-in-Err-clause-only c = λ e rest.
     elim e as (λ e. c.args.cursor.now ≡ entry_lexemes c.args.read.now e rest → IsOkUnless c.from_residual.result NoMemory) [
       | Number b ↦ λ is. let free = c.in_err-bound-in-Err.ensures.only b rest (c.in-Err.ensures.err ∙ is) in search rules
-      | Read ↦ λ is. let starts : Starts (name c.args.read.now) c.args.cursor.now = search rules in absurd (c.in-Err.ensures.only c.args.read.now starts)
+      | Read ↦ λ is. let starts : Starts (name c.args.read.now) c.args.cursor.now = search rules in
+          absurd (c.in-Err.ensures.only c.args.read.now starts)
     ]

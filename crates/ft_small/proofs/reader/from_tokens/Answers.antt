@@ -12,6 +12,7 @@ returns-then-not-are_short-clause-only c = λ f spelled.
 
 pub returns-else-is_good-clause-only : goal.returns-else-is_good-clause-only
 returns-else-is_good-clause-only c = λ f spelled.
-    let same = small_set-same f c.in_ok-small.small (sym spelled.grammar ∙ ap (lexemes_of c.args.text.now) (c.requires.only spelled.tokens spelled.are)
+    let same = small_set-same f c.in_ok-small.small (sym spelled.grammar
+    ∙ ap (lexemes_of c.args.text.now) (c.requires.only spelled.tokens spelled.are)
     ∙ sym c.new-cursor.ensures ∙ c.in_ok-small.ensures.spelled) in
     let good = c.is_good.ensures.1 (subst IsGoodSmallSet same spelled.good) in search rules

@@ -15,5 +15,6 @@ loop-step-preserved c =
 
 pub returns-clause-none : goal.returns-clause-none
 returns-clause-none c =
-    all-within (λ z. required_at c.args.rows.now z ≡ designed_at c.args.rows.now z) c.args.monitored c.numbers_in-step-end.result c.loop-step.step
+    all-within (λ z. required_at c.args.rows.now z ≡ designed_at c.args.rows.now z) c.args.monitored c.numbers_in-step-end.result
+    c.loop-step.step
     c.numbers_in-step-end.ensures (omega arith) c.loop-step.invariant

@@ -12,5 +12,6 @@ pub returns : goal.returns
 returns c = λ tree.
     let lines = tree_lines tree in
     let sound = set-sound tree.name tree.period tree.splits tree.depth tree.items tree.lawful in
-    let read = read-made (flat_map line_bytes lines) (map piece_shape (flat_map (λ (line : Line). line.pieces) lines)) (made-lines c.signs_longest.ensures lines sound.all) in
+    let read = read-made (flat_map line_bytes lines) (map piece_shape (flat_map (λ (line : Line). line.pieces) lines))
+    (made-lines c.signs_longest.ensures lines sound.all) in
     (read.tokens, read.are, read.shaped)

@@ -15,6 +15,12 @@ use Rattle.ft_pool.proofs.block.Cells.TheLaw.Statement.{statement}
 use Rattle.ft_pool.proofs.Sharing.{cells_lent_laws, Lends-cells}
 
 pub shares : (R B : RattleType) (g : Ghosts B.Denot) (L : Laws R) (K : Laws B) → statement R B g L K
-shares R B g L K = of_Lends (C.struct R B g) (C.the_codes R.Denot B.Denot R.coded B.coded (marker.the_row RawPtr).coded) (C.the_heap R B g) (C.the_lent R B g)
-    (λ d p. cells_lent_laws R L.shr_laws d.at d.room d.items) (copy_shared (marker.the_field RawPtr) (field_copy (marker.the_type RawPtr) tt), tt)
-    (λ M 𝓤 𝓛 d p. Lends-cells 𝓛 (C.the_row R B g).lives R L (Incl-trans (meet_⊑_left (R.lives ++ (B.lives ++ [])) _) (meet_⊑_left R.lives (B.lives ++ []))) (g.dealloc_token d.heap) d.at d.room d.items)
+shares R B g L K = of_Lends (C.struct R B g) (C.the_codes R.Denot B.Denot R.coded B.coded (marker.the_row RawPtr).coded) (C.the_heap R B g)
+    (C.the_lent R B g)
+    (λ d p. cells_lent_laws R L.shr_laws d.at d.room d.items) (
+      copy_shared (marker.the_field RawPtr)
+          (field_copy (marker.the_type RawPtr) tt),
+      tt,
+    )
+    (λ M 𝓤 𝓛 d p. Lends-cells 𝓛 (C.the_row R B g).lives R L (Incl-trans (meet_⊑_left (R.lives ++ (B.lives ++ [])) _)
+    (meet_⊑_left R.lives (B.lives ++ []))) (g.dealloc_token d.heap) d.at d.room d.items)

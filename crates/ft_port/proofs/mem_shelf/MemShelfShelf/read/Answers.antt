@@ -15,4 +15,5 @@ either x y fails listed same = (
 )
 
 pub returns-clause-fails : goal.returns-clause-fails
-returns-clause-fails c = either _ _ c.read_part-result.ensures.fails c.next_is_listed-listed.ensures (rw c.as_bytes.ensures.value at c.content-content.ensures)
+returns-clause-fails c = either _ _ c.read_part-result.ensures.fails c.next_is_listed-listed.ensures
+    (rw c.as_bytes.ensures.value at c.content-content.ensures)

@@ -32,17 +32,34 @@ Answer = ResultOf usize failed.the_row
 abbrev stayed : Stays (f.ended).signature.params (f.ended).kept
 stayed = (
   stay_none_ref (0 ∷ []) tt (plain (λ _. reads.the_row)) yes,
-  (stay_none_ref (1 ∷ []) tt (plain (λ _. u64)) yes, (stay_none_ref (2 ∷ []) tt (plain (λ _. Answer)) yes, (stay_none_slice (3 ∷ []) tt (plain (λ _. u8)) yes, tt))),
+  (
+    stay_none_ref (1 ∷ []) tt (plain (λ _. u64)) yes,
+    (
+      stay_none_ref (2 ∷ []) tt (plain (λ _. Answer)) yes,
+      (stay_none_slice (3 ∷ []) tt (plain (λ _. u8)) yes, tt),
+    ),
+  ),
 )
 
 pub followed_by_spec : {M : Type 1} → statement M
 followed_by_spec 𝓤 𝓛 𝓜 𝓡 wired =
     let R : RattleType = reads.the_row in let F = f.ended in let fn = code.function in
     let c = f.clauses 𝓛 𝓜.mem 𝓡.returns in let W = walk_of 𝓛 F stayed c in let 𝓣 = tables 𝓤 𝓛.H 𝓜 𝓡 𝓡.env in
-    proved 𝓛 F stayed c 𝓜 𝓡
-    (Goes-none_ref 𝓛 4 (0 ∷ []) tt (plain (λ _. R)) yes, (Goes-none_ref 𝓛 4 (1 ∷ []) tt (plain (λ _. u64)) yes, (Goes-none_ref 𝓛 4 (2 ∷ []) tt (plain (λ _. Answer)) yes, (Goes-none_slice 𝓛 4 (3 ∷ []) tt (plain (λ _. u8)) yes, tt))))
+    proved 𝓛 F stayed c 𝓜 𝓡 (
+      Goes-none_ref 𝓛 4 (0 ∷ []) tt (plain (λ _. R)) yes,
+      (
+        Goes-none_ref 𝓛 4 (1 ∷ []) tt (plain (λ _. u64)) yes,
+        (Goes-none_ref 𝓛 4 (2 ∷ []) tt (plain (λ _. Answer)) yes, (Goes-none_slice 𝓛 4 (3 ∷ []) tt (plain (λ _. u8)) yes, tt)),
+      ),
+    )
     key fn (code.unfolded 𝓤 𝓛.H 𝓜 𝓡 wired) (λ κs. (shr_vals, (shr_vals, (shr_vals, (shr_slice_vals, tt)))))
-    (λ κs. (shr_Tells (named 0) κs.0 R, (shr_Tells (named 1) κs.1.0 u64, (shr_Tells (named 2) κs.1.1.0 Answer, (shr_slice_Tells (named 3) κs.1.1.1.0 u8, tt))))) (λ κs qs bounds a g are.
+    (λ κs. (
+      shr_Tells (named 0) κs.0 R,
+      (
+        shr_Tells (named 1) κs.1.0 u64,
+        (shr_Tells (named 2) κs.1.1.0 Answer, (shr_slice_Tells (named 3) κs.1.1.1.0 u8, tt)),
+      ),
+    )) (λ κs qs bounds a g are.
     let before : Val = vptr a.0.ref_ptr.0 a.0.ref_ptr.1 in
     let place : Val = vptr a.1.0.ref_ptr.0 a.1.0.ref_ptr.1 in
     let answer : Val = vptr a.1.1.0.ref_ptr.0 a.1.1.0.ref_ptr.1 in
@@ -50,11 +67,13 @@ followed_by_spec 𝓤 𝓛 𝓜 𝓡 wired =
     let y : W.Ghost = ((κs, qs, bounds, a, (before ∷ [], (place ∷ [], (answer ∷ [], (into ∷ [], tt))))), g) in
     let made : R.Denot = record { of = record {}; list = read_of a.1.0.now a.1.1.0.now a.1.1.1.0.now ∷ a.0.now.list } in
     let value : Val = vstruct (vcons (vstruct vnil) vnil) in
-    qed 𝓛 ((raw (alive 𝓛 F.signature κs qs) ⊛ ‵ (owns (types_at F.signature.params κs) a y.0.4)) ∷ raw ((c κs a).requires g) ∷ []) ∵ keep ! (0 ∷ []) $ split ! $
+    qed 𝓛 ((raw (alive 𝓛 F.signature κs qs) ⊛ ‵ (owns (types_at F.signature.params κs) a y.0.4)) ∷ raw ((c κs a).requires g) ∷ []) ∵ keep !
+    (0 ∷ []) $ split ! $
     enter ! 𝓣.C 𝓣.Λ fn (before ∷ place ∷ answer ∷ into ∷ []) _ $
     alloc_all ! (λ l. pass_all ! refl ((tt, tt), ((tt, tt), ((tt, tt), ((tt, (tt, (record { fits = are.1.1.1.0.0.1.0 }, tt))), tt)))) $
     sets ! (agg ! (no_more !)) refl (tt, tt) $ sets ! (agg ! (and_then ! (get ! refl) (no_more !))) refl (tt, (tt, tt)) $
     returns ! (look_at ! 0 refl) $ free_all ! refl $
     suffices ! _ (ends_at 𝓛 F stayed c y value made (tt, (tt, (tt, (tt, tt)))) (tt, (tt, (tt, (tt, tt))))) $
-    says ! refl $ pure_i ! (R.own_val made (value ∷ [])) ((λ vss. (tt, ((λ uss. (tt, tt)), tt))), tt) (((vstruct vnil ∷ [], tt), (refl, ((tt, (refl, tt)), tt))), tt) $
+    says ! refl $ pure_i ! (R.own_val made (value ∷ [])) ((λ vss. (tt, ((λ uss. (tt, tt)), tt))), tt)
+    (((vstruct vnil ∷ [], tt), (refl, ((tt, (refl, tt)), tt))), tt) $
     move ! (1 ∷ 2 ∷ 0 ∷ []) $ done !))

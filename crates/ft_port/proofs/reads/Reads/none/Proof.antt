@@ -26,8 +26,10 @@ none_spec 𝓤 𝓛 𝓜 𝓡 wired =
     let made : R.Denot = record { of = record {}; list = [] } in
     let value : Val = vstruct (vcons (vstruct vnil) vnil) in
     qed 𝓛 ((raw (alive 𝓛 F.signature κs qs) ⊛ ‵ (owns [] tt tt)) ∷ raw ((c κs a).requires g) ∷ []) ∵ keep ! (0 ∷ []) $ split ! $
-    enter ! 𝓣.C 𝓣.Λ fn [] _ $ alloc_all ! (λ l. pass_all ! refl tt $ sets ! (agg ! (no_more !)) refl (tt, tt) $ sets ! (agg ! (and_then ! (get ! refl) (no_more !))) refl (tt, (tt, tt)) $
+    enter ! 𝓣.C 𝓣.Λ fn [] _ $ alloc_all ! (λ l. pass_all ! refl tt $ sets ! (agg ! (no_more !)) refl (tt, tt) $ sets !
+    (agg ! (and_then ! (get ! refl) (no_more !))) refl (tt, (tt, tt)) $
     returns ! (look_at ! 0 refl) $ free_all ! refl $
     suffices ! _ (ends_at 𝓛 F tt c y value made tt tt) $
-    says ! refl $ pure_i ! (R.own_val made (value ∷ [])) ((λ vss. (tt, ((λ uss. (tt, tt)), tt))), tt) (((vstruct vnil ∷ [], tt), (refl, ((tt, (refl, tt)), tt))), tt) $
+    says ! refl $ pure_i ! (R.own_val made (value ∷ [])) ((λ vss. (tt, ((λ uss. (tt, tt)), tt))), tt)
+    (((vstruct vnil ∷ [], tt), (refl, ((tt, (refl, tt)), tt))), tt) $
     move ! (1 ∷ 2 ∷ 0 ∷ []) $ done !))
