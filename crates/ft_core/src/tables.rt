@@ -1,5 +1,6 @@
-ghost use Rattle.std.specs.Prelude.{◌≡◌};
-ghost use Rattle.ft_core.specs.meaning.Grids.{is_section};
+ghost use Rattle.std.specs.Prelude.{◌≡◌, [], slice_get, slice_index_or};
+ghost use Rattle.std.specs.Option.{option_map};
+ghost use Rattle.ft_core.specs.meaning.Grids.{is_section, term_at};
 ghost use Rattle.ft_core.specs.meaning.Inits.{init_of};
 ghost use Rattle.ft_core.specs.checked.Sound.{IsSound};
 ghost use Rattle.ft_core.specs.checked.Checked.{IsChecked, checked_prop};
@@ -169,6 +170,29 @@ impl Section {
         ensures { result ≡ is_section self other }
     {
         self == other
+    }
+}
+
+/// The term in a row and a column of rows of terms.
+fn term_in(rows: &[List<Term>], row: usize, column: usize) -> Option<&Term>
+    ensures { option_map (λ term. term.now) result ≡ slice_get (slice_index_or rows.now row []) column }
+{
+    match rows.get(row) {
+        Some(terms) => terms.as_slice().get(column),
+        None => None,
+    }
+}
+
+impl Grid {
+    /// The term in a row and a column, both from 0.
+    pub fn term(&self, row: usize, column: usize) -> Option<&Term>
+        ensures { option_map (λ term. term.now) result ≡ term_at self.now row column }
+    {
+        match self {
+            Grid::Inverted { terms, .. } => terms.as_slice().get(column),
+            Grid::Normal { terms, .. } => term_in(terms.as_slice(), row, column),
+            Grid::Vector { terms, .. } => term_in(terms.as_slice(), row, column),
+        }
     }
 }
 

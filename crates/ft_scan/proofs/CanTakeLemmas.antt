@@ -66,7 +66,7 @@ module _ (L : Laws) (S : Tables) (proper : AllProper S) (s : Side) (steps : List
   has_cell x table can =
       let v = of_kinds S.vars (defined_kinds (section_of s)) x can.defined in
       let some = (has_value L) S proper s a n scan.in_range scan.follows V x v.0 (v.1, v.2) ((cells_known L) S s steps a n p frame told x table can.there.table can.there.there can.there.is_for_it can.known) in
-      record { there = can.there; whole = can.whole; of_side = can.defined; z = some.0; is = some.1 }
+      record { there = can.there; of_side = can.defined; z = some.0; is = some.1 }
 
   has_entry : (x table row : ℕ) → CanFindEntry S s steps p x table row → HasEntry S s table row frame
   has_entry x table row can =

@@ -11,10 +11,10 @@ use Rattle.ft_core.specs.declared.tables.Side.{Side}
 use Rattle.ft_core.specs.declared.tables.Memory.{Memory}
 use Rattle.ft_core.specs.declared.tables.Memory.TheVariants.{Held, Hyst}
 use Rattle.ft_core.specs.declared.tables.Grid.{Grid}
-use Rattle.ft_core.specs.declared.tables.Grid.TheVariants.{Vector}
+use Rattle.ft_core.specs.declared.tables.Grid.TheVariants.{Normal, Inverted, Vector}
 use Rattle.ft_core.specs.declared.term.Cond.{Cond}
 use Rattle.ft_core.specs.declared.term.Term.{Term}
-use Rattle.ft_core.specs.meaning.Grids.{cells_for, defines, is_for, is_section}
+use Rattle.ft_core.specs.meaning.Grids.{cells_for, is_for, term_at}
 use Rattle.ft_core.specs.meaning.Kinds.{Kinds, is_of, section_of}
 use Rattle.ft_core.specs.checked.Size.{is_sized, is_sized_term, is_sized_grid, is_sized_memory}
 use Rattle.ft_mean.specs.meaning.Cells.{defined}
@@ -22,11 +22,12 @@ use Rattle.ft_mean.specs.meaning.Value.{View, value}
 use Rattle.ft_scan.specs.declared.frame.Frame.{Frame}
 use Rattle.ft_scan.specs.declared.frame.Running.{Running}
 use Rattle.ft_scan.specs.declared.frame.Running.TheVariants.{Timer, Band}
-use Rattle.ft_scan.specs.steps.Found.{IsFound, IsOpenColumn, IsEntry, IsWhole}
+use Rattle.ft_scan.specs.steps.Found.{IsFound, IsOpenColumn}
 use Rattle.ft_scan.specs.steps.Frame.{view_of, IsFrameOf, IsRunOf, Advances, HasColumn, FindsColumn, HasCell, HasEntry, FindsEntry}
 use Rattle.ft_scan.specs.steps.Plan.{IsVector}
 use Rattle.ft_mean.specs.judge.Safe.{KeepsSizes, IsSafe, IsSafeBy, IsSafeGrid, IsSafeMemory}
 use Rattle.ft_scan.specs.steps.Stepping.{sample_of, CanHear, Hears}
+use Rattle.ft_scan.proofs.FoundLemmas.{inside}
 use Rattle.ft_scan.proofs.RowLemmas.{value_size, no_age}
 use Rattle.ft_scan.proofs.TableLemmas.{all_at, for_it, grid_safe, found_defined, found_none}
 use Rattle.ft_scan.specs.laws.Laws.{Laws}
@@ -88,14 +89,14 @@ module _ (S : Tables) (s : Side) (place : ℕ) (table : Table) (there : slice_ge
       }
 
   module _ (row column : ℕ) (is : slice_index_or frame.columns place 0 ≡ column) where
-    entry_at : (has : HasEntry S s place row frame) → IsEntry table.grid row column has.term
-    entry_at has = subst (λ g. IsEntry g row column has.term) (sym (grid_at S s place table has.columns has.targets has.terms there has.there))
+    entry_at : (has : HasEntry S s place row frame) → term_at table.grid row column ≡ Some has.term
+    entry_at has = subst (λ g. term_at g row column ≡ Some has.term) (sym (grid_at S s place table has.columns has.targets has.terms there has.there))
         (ap (slice_get (slice_index_or has.terms row [])) (sym is) ∙ has.at)
 
-    pub has_entry : HasEntry S s place row frame → (e : Term) × IsEntry table.grid row column e
+    pub has_entry : HasEntry S s place row frame → (e : Term) × (term_at table.grid row column ≡ Some e)
     has_entry has = (has.term, entry_at has)
 
-    pub entry_found : (variable : ℕ) (z : ℤ) (now : List ℤ) → ((e : Term) → IsEntry table.grid row column e → z ≡ value (view_of frame) e)
+    pub entry_found : (variable : ℕ) (z : ℤ) (now : List ℤ) → ((e : Term) → term_at table.grid row column ≡ Some e → z ≡ value (view_of frame) e)
         → now ≡ slice_set frame.now variable z → HasEntry S s place row frame
         → FindsEntry S s variable place row frame (record { now = now; past = frame.past; truths = frame.truths; columns = frame.columns; runs = frame.runs })
     entry_found variable z now value_is put has =
@@ -110,43 +111,42 @@ module _ (S : Tables) (s : Side) (place : ℕ) (table : Table) (there : slice_ge
           leaves = λ i. record { now = all i; past = frame.past; truths = frame.truths; columns = frame.columns; runs = frame.runs };
         }
 
--- a whole table has a cell that holds, and gives its value
-module _ (L : Laws) (S : Tables) (s : Side) (place : ℕ) (table : Table) (there : slice_get S.tables place ≡ Some table) (frame : Frame) (x : ℕ) (has : HasCell S s x place frame) where
+-- the table of a variable has a cell for it that holds, and gives its value
+module _ (L : Laws) (S : Tables) (s : Side) (place : ℕ) (table : Table) (there : slice_get S.tables place ≡ Some table) (frame : Frame) (x : ℕ)
+    (has : HasCell S s x place frame) where
   mine : IsTrue (is_for (section_of s) x table)
   mine = for_it S.tables (section_of s) x place has.there table there
 
-  defines_it : IsTrue (defines table.grid x)
-  defines_it = (and_parts (is_section table.section (section_of s)) (defines table.grid x) mine).1
+  pub cell_missed : IsFound (view_of frame) (cells_for x table.grid) None → ⊥
+  cell_missed none = (found_none L) S (section_of s) x place table there mine (view_of frame) has.z none has.is
 
-  pub cell_whole : IsWhole table.grid
-  cell_whole = subst (λ (t : Table). IsWhole t.grid) (same_Some has.there.table table (sym has.there.there ∙ there)) has.whole
-
-  pub cell_missed : ((y : ℕ) → IsTrue (defines table.grid y) → IsFound (view_of frame) (cells_for y table.grid) None) → ⊥
-  cell_missed none = (found_none L) S (section_of s) x place table there mine (view_of frame) has.z (none x defines_it) has.is
-
-  pub cell_found : (z : ℤ) → ((y : ℕ) → IsTrue (defines table.grid y) → IsFound (view_of frame) (cells_for y table.grid) (Some z))
-      → IsTrue (defined S (section_of s) (view_of frame) x z)
-  cell_found z found = (found_defined L) S (section_of s) x place table there mine (view_of frame) z (found x defines_it)
+  pub cell_found : (z : ℤ) → IsFound (view_of frame) (cells_for x table.grid) (Some z) → IsTrue (defined S (section_of s) (view_of frame) x z)
+  cell_found z found = (found_defined L) S (section_of s) x place table there mine (view_of frame) z found
 
 -- what is safe by a test is safe by one that follows from it
 by_less : {V : View} {test other : List Var → List Memory → Bool} → ((vars : List Var) (memories : List Memory) → IsTrue (test vars memories) → IsTrue (other vars memories))
     → IsSafeBy V test → IsSafeBy V other
 by_less h s = record { vars = s.vars; memories = s.memories; keeps = s.keeps; small = h s.vars s.memories s.small }
 
--- an entry of a safe vector table is safe, and is the one in its row and column
-module _ (grid : Grid) (columns : List Cond) (targets : List ℕ) (terms : List (List Term)) (vector : grid ≡ Vector columns targets terms) (row column : ℕ)
-    (entries : List Term) (e : Term) (in_row : slice_get terms row ≡ Some entries) (there : slice_get entries column ≡ Some e) where
-  pub entry_safe : (V : View) → IsSafeGrid V grid → IsSafe V e
-  entry_safe V safe = by_less (λ vars memories sized.
-      all_at (is_sized_term vars memories) entries column e
-      (all_at (list_all (is_sized_term vars memories)) terms row entries
-      (and_parts (list_all (is_sized vars memories) columns) _ (subst (λ g. IsTrue (is_sized_grid vars memories g)) vector sized)).1
-      in_row)
-      there) safe
+-- a term of a safe table is safe
+term_passes : (test : Term → Bool) (terms : List (List Term)) (row column : ℕ) (e : Term) → slice_get (slice_index_or terms row []) column ≡ Some e
+    → list_all (list_all test) terms ≡ true → test e ≡ true
+term_passes test terms row column e there all =
+    all_at test (slice_index_or terms row []) column e
+    (all_at (list_all test) terms row (slice_index_or terms row []) all (inside terms row column e there)) there
 
-  pub same_entry : (f : Term) → IsEntry grid row column f → e ≡ f
-  same_entry f is = same_Some e f (sym there ∙ ap (λ xs. slice_get xs column) (sym (get_or_from_slice_get terms row entries [] in_row))
-      ∙ subst (λ g. IsEntry g row column f) vector is)
+term_sized : (vars : List Var) (memories : List Memory) (grid : Grid) (row column : ℕ) (e : Term) → term_at grid row column ≡ Some e
+    → IsTrue (is_sized_grid vars memories grid) → IsTrue (is_sized_term vars memories e)
+term_sized vars memories (Normal target columns rows terms) row column e there sized =
+    term_passes (is_sized_term vars memories) terms row column e there (and_parts _ (list_all (list_all (is_sized_term vars memories)) terms) sized).1
+term_sized vars memories (Inverted target terms rows grid) row column e there sized =
+    all_at (is_sized_term vars memories) terms column e
+    (and_parts (list_all (is_sized_term vars memories) terms) _ (and_parts _ (list_all (list_all (is_sized vars memories)) grid) sized).0).0 there
+term_sized vars memories (Vector columns targets terms) row column e there sized =
+    term_passes (is_sized_term vars memories) terms row column e there (and_parts _ (list_all (list_all (is_sized_term vars memories)) terms) sized).1
+
+pub term_safe : (V : View) (grid : Grid) (row column : ℕ) (e : Term) → term_at grid row column ≡ Some e → IsSafeGrid V grid → IsSafe V e
+term_safe V grid row column e there = by_less (λ vars memories. term_sized vars memories grid row column e there)
 
 -- the variable at a place that passes a test of kinds
 pub of_kinds : (vars : List Var) (kinds : Kinds) (x : ℕ) → IsTrue (is_of vars kinds x) → (v : Var) × (slice_get vars x ≡ Some v) × IsTrue (kinds x v)

@@ -8,10 +8,10 @@ use Rattle.ft_core.specs.declared.tables.Tables.{Tables}
 use Rattle.ft_core.specs.declared.tables.Table.{Table}
 use Rattle.ft_core.specs.declared.tables.Section.{Section}
 use Rattle.ft_core.specs.declared.term.Term.{Term}
-use Rattle.ft_core.specs.meaning.Grids.{cells_for, defines, is_section, is_for, is_shaped}
+use Rattle.ft_core.specs.meaning.Grids.{cells_for, defines, is_section, is_for, is_shaped, term_at}
 use Rattle.ft_mean.specs.meaning.Cells.{defined}
 use Rattle.ft_mean.specs.meaning.Value.{View, value}
-use Rattle.ft_scan.specs.steps.Found.{IsFound, IsTrueAt, IsOpenColumn, IsEntry}
+use Rattle.ft_scan.specs.steps.Found.{IsFound, IsTrueAt, IsOpenColumn}
 use Rattle.ft_scan.specs.steps.Mapping.{CanMap, IsTableOf, HasTargets, IsFilled}
 use Rattle.ft_scan.proofs.FillLemmas.{nothing}
 use Rattle.ft_scan.proofs.FoundLemmas.{fails, vector_none, vector_gives}
@@ -36,13 +36,13 @@ module _ (L : Laws) (S : Tables) (section : Section) (V : View) (can : CanMap S 
   module _ (targets : List ℕ) (has : HasTargets table targets) where
     -- a row of a vector table has an entry in a column that holds, and it gives the value of the row's target
     pub row_finds : (row x column : ℕ) → slice_get targets row ≡ Some x → IsOpenColumn V table.grid column
-        → (e : Term) × IsEntry table.grid row column e × IsTrue (defined S section V x (value V e))
+        → (e : Term) × (term_at table.grid row column ≡ Some e) × IsTrue (defined S section V x (value V e))
     row_finds row x column target open_at =
         let held : IsTrueAt V has.0 column = subst (λ g. IsOpenColumn V g column) has.2 open_at in
         let entry = entry_there has.0 targets has.1 (subst (λ g. IsTrue (is_shaped g)) has.2 (grid_shaped S is.0 table is.1)) row x target column
         (slice_get_within has.0 column held.0 held.1) in (
           entry.0,
-          subst (λ g. IsEntry g row column entry.0) (sym has.2) entry.1,
+          subst (λ g. term_at g row column ≡ Some entry.0) (sym has.2) entry.1,
           finds x (subst (λ g. IsTrue (defines g x)) (sym has.2) (defines_target targets row x target)) (value V entry.0)
               (subst (λ g. IsFound V (cells_for x g) (Some (value V entry.0))) (sym has.2)
               (vector_gives V x has.0 targets has.1 row x (value V entry.0) target (eq-eqb x x refl) (column, held.0, entry.0, held.1, entry.1, held.2, refl))),

@@ -6,7 +6,6 @@ ghost use Rattle.ft_core.specs.meaning.Kinds.{monitored, inputs, outputs, contro
 ghost use Rattle.ft_mean.specs.meaning.Fits.{InputMap, Maps};
 ghost use Rattle.ft_mean.specs.meaning.Proper.{AllProper};
 ghost use Rattle.ft_mean.specs.meaning.Reading.{IsListOf};
-ghost use Rattle.ft_scan.specs.steps.Found.{IsWhole};
 ghost use Rattle.ft_scan.specs.steps.Mapping.{CanMap, IsTableOf, HasTargets, IsFilled};
 ghost use Rattle.ft_scan.specs.steps.Rows.{AreValues};
 
@@ -31,7 +30,7 @@ fn put_value(tables: &Tables, section: Section, variable: usize, value: i64, ima
     }
 }
 
-/// Puts the value of the one variable of a normal or an inverted table into a row.
+/// Puts the value of a variable of a table into a row.
 fn put_cell<L: Look>(
     tables: &Tables,
     section: Section,
@@ -42,13 +41,12 @@ fn put_cell<L: Look>(
 )
     requires can { CanMap tables.now section (L.view look.now) }
     requires table { IsTableOf tables.now section table.now }
-    requires whole { IsWhole table.now.grid }
     requires target { IsTrue (defines table.now.grid target) }
     requires room { length image.old ≡ count_of (defined_kinds section) tables.now.vars }
     ensures { IsFilled tables.now section (L.view look.now) (λ x. target == x) image.old image.new }
 {
     laws();
-    let Some(value) = value_in(&table.grid, look) else {
+    let Some(value) = value_in(&table.grid, target, look) else {
         return;
     };
     put_value(tables, section, target, value, image);

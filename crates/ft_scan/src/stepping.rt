@@ -42,15 +42,15 @@ impl Look for Frame {
     }
 }
 
-/// The value of a variable by its table, which is normal or inverted, at a scan where some cell of it holds.
-fn value_by(tables: &Tables, table: usize, frame: &Frame) -> i64
+/// The value of a variable by its table, at a scan where some cell of it holds.
+fn value_by(tables: &Tables, variable: usize, table: usize, frame: &Frame) -> i64
     requires keeps { KeepsSizes tables.now.vars tables.now.memories (view_of frame.now) }
-    requires has { (s : Side) × (x : ℕ) × HasCell tables.now s x table frame.now }
-    ensures { (s : Side) (x : ℕ) → HasCell tables.now s x table frame.entry.now → IsTrue (defined tables.now (section_of s) (view_of frame.entry.now) x result) }
+    requires has { (s : Side) × HasCell tables.now s variable table frame.now }
+    ensures { (s : Side) → HasCell tables.now s variable table frame.entry.now → IsTrue (defined tables.now (section_of s) (view_of frame.entry.now) variable result) }
 {
     laws();
-    let whole = tables.tables.get(table);
-    match value_in(&whole.grid, frame) {
+    let its_table = tables.tables.get(table);
+    match value_in(&its_table.grid, variable, frame) {
         Some(value) => value,
         None => unreachable!(),
     }
@@ -75,7 +75,7 @@ fn find_cell(tables: &Tables, variable: usize, table: usize, frame: &mut Frame)
     requires can { (s : Side) × HasCell tables.now s variable table frame.old }
     ensures { (s : Side) → HasCell tables.now s variable table frame.old → FindsCell tables.now s variable frame.old frame.new }
 {
-    let value = value_by(tables, table, frame);
+    let value = value_by(tables, variable, table, frame);
     frame.now.set(variable, value);
 }
 

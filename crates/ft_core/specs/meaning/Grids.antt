@@ -1,5 +1,5 @@
 -- The cells of a table, by rows. Source: Parnas's tabular expressions, in their normal, inverted and vector form.
-use Rattle.std.specs.Prelude.{ℕ, Bool, true, false, nat_lt, ◌&&◌, ◌==◌, List, [], ◌∷◌, length, map, filter}
+use Rattle.std.specs.Prelude.{ℕ, Bool, true, false, nat_lt, ◌&&◌, ◌==◌, List, [], ◌∷◌, length, map, filter, Option, slice_get, slice_index_or}
 use Rattle.std.specs.List.{list_all, list_any, flat_map, zip, enumerate_from}
 use Rattle.ft_core.specs.declared.tables.Table.{Table}
 use Rattle.ft_core.specs.declared.tables.Section.{Section}
@@ -36,6 +36,12 @@ cells (Vector columns targets terms) =
 -- the cells that are for variable x
 abbrev pub cells_for : ℕ → Grid → List Cell
 cells_for x grid = filter (λ cell. cell.target == x) (cells grid)
+
+-- the term in a row and a column
+abbrev pub term_at : Grid → (row column : ℕ) → Option Term
+term_at (Normal target columns rows terms) row column = slice_get (slice_index_or terms row []) column
+term_at (Inverted target terms rows grid) row column = slice_get terms column
+term_at (Vector columns targets terms) row column = slice_get (slice_index_or terms row []) column
 
 -- whether a table defines variable x
 abbrev pub defines : Grid → ℕ → Bool

@@ -1,5 +1,5 @@
 -- What is found among the cells of a table.
-use Rattle.std.specs.Prelude.{ℕ, ◌≡◌, ◌<◌, ℤ, List, [], slice_get, slice_index_or, Option, Some, None, IsTrue, IsFalse}
+use Rattle.std.specs.Prelude.{ℕ, ◌≡◌, ◌<◌, ℤ, List, [], slice_get, Option, Some, None, IsTrue, IsFalse}
 use Rattle.std.specs.List.{list_any}
 use Rattle.std.specs.Ordering.{int_eq}
 use Rattle.ft_core.specs.declared.term.Cond.{Cond}
@@ -18,11 +18,6 @@ IsInRow V conds terms None = (j : ℕ) (c : Cond) (e : Term) → slice_get conds
 IsInRow V conds terms (Some z) =
     (j : ℕ) × (c : Cond) × (e : Term) × (slice_get conds j ≡ Some c) × (slice_get terms j ≡ Some e) × IsTrue (truth V c) × (z ≡ value V e)
 
--- the same in a row with a condition of its own
-abbrev pub IsInHeadedRow : View → Cond → List Cond → List Term → Option ℤ → Type 0
-IsInHeadedRow V head conds terms None = IsTrue (truth V head) → IsInRow V conds terms None
-IsInHeadedRow V head conds terms (Some z) = IsTrue (truth V head) × IsInRow V conds terms (Some z)
-
 -- the value of the term of a cell that holds, or no cell holds
 abbrev pub IsFound : View → List Cell → Option ℤ → Type 0
 IsFound V cells None = holding V cells ≡ []
@@ -40,11 +35,6 @@ IsFirstTrue V conds at = IsTrueAt V conds at × ((j : ℕ) → j < at → IsTrue
 abbrev pub IsOpenColumn : View → Grid → ℕ → Type 0
 IsOpenColumn V (Vector columns targets terms) at = IsTrueAt V columns at
 IsOpenColumn V _ at = ⊥
-
--- the term in this row and column of a vector table
-abbrev pub IsEntry : Grid → (row column : ℕ) → Term → Type 0
-IsEntry (Vector columns targets terms) row column e = slice_get (slice_index_or terms row []) column ≡ Some e
-IsEntry _ row column e = ⊥
 
 -- the table is normal or inverted
 abbrev pub IsWhole : Grid → Type 0

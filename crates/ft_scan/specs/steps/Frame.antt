@@ -18,7 +18,7 @@ use Rattle.ft_scan.specs.declared.plan.Step.TheVariants as step
 use Rattle.ft_scan.specs.declared.frame.Frame.{Frame}
 use Rattle.ft_scan.specs.declared.frame.Running.{Running}
 use Rattle.ft_scan.specs.declared.frame.Running.TheVariants.{Timer, Band}
-use Rattle.ft_scan.specs.steps.Found.{IsTableFor, IsWhole}
+use Rattle.ft_scan.specs.steps.Found.{IsTableFor}
 use Rattle.ft_scan.specs.steps.Plan.{IsVector}
 
 -- what every name stands for in a scan under way
@@ -126,10 +126,9 @@ pub record HasEntry (S : Tables) (s : Side) (table row : ℕ) (frame : Frame) : 
   pub term : Term
   pub at : slice_get (slice_index_or terms row []) (slice_index_or frame.columns table 0) ≡ Some term
 
--- a variable's table is whole and has a cell that holds
+-- a variable's table has a cell for it that holds
 pub record HasCell (S : Tables) (s : Side) (variable table : ℕ) (frame : Frame) : Type 0 where
   pub there : IsTableFor S.tables (section_of s) variable table
-  pub whole : IsWhole there.table.grid
   pub of_side : IsTrue (is_of S.vars (defined_kinds (section_of s)) variable)
   pub z : ℤ
   pub is : IsTrue (defined S (section_of s) (view_of frame) variable z)
