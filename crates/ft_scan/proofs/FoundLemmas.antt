@@ -1,14 +1,14 @@
 -- What is found first, or in a row, is found among the cells of a table.
-use Rattle.std.proofs.Common.{◌≡◌, ◌∙◌, sym, ap, subst, refl, ℕ, zero, suc, ◌+◌, ◌<◌, ◌≤◌, ℤ, Bool, true, false, cond, ◌&&◌, List, [], ◌∷◌, ◌++◌, map, length, slice_get, slice_index_or, Option, Some, None, arith, ⊎_elim}
+use Rattle.std.proofs.Common.{◌≡◌, ◌∙◌, sym, ap, subst, refl, ℕ, zero, suc, ◌+◌, ◌<◌, ℤ, Bool, true, false, cond, ◌&&◌, List, [], ◌∷◌, ◌++◌, map, length, slice_get, slice_index_or, Option, Some, None, arith, ⊎_elim}
 use Rattle.std.specs.Prelude.{filter, ◌==◌}
 use Rattle.std.specs.List.{All, find, list_any, list_all, flat_map, zip, enumerate_from, position_or_len}
 use Rattle.std.specs.Option.{option_map}
 use Rattle.std.specs.Ordering.{int_eq}
-use Rattle.std.proofs.lemmas.Bool.{cond-true, cond-false, cases_Bool, or_left, or_right, eq-eqb, eqb-true, cases_lt}
+use Rattle.std.proofs.lemmas.Bool.{cond-true, cond-false, cases_Bool, or_left, or_right, cases_lt}
 use Rattle.std.proofs.lemmas.Bool.Decides.{Decides-int_eq}
 use Rattle.std.proofs.lemmas.List.Elements.{All-filter, filter-append}
 use Rattle.std.proofs.lemmas.List.Folds.{find_at, list_any-append}
-use Rattle.std.proofs.lemmas.Option.{none-some, same_Some, slice_get-map, get_or_from_slice_get, slice_get_cases, slice_get_within, slice_get_past}
+use Rattle.std.proofs.lemmas.Option.{none-some, same_Some, slice_get-map, get_or_from_slice_get, slice_get_within}
 use Rattle.ft_core.specs.declared.tables.Grid.TheVariants.{Vector}
 use Rattle.ft_core.specs.declared.term.Term.{Term}
 use Rattle.ft_core.specs.declared.term.Cond.{Cond}
@@ -30,7 +30,8 @@ pub mapped_there : {A B : Type 0} (f : A → B) (xs : List A) (k : ℕ) (x : A) 
 mapped_there f xs k x e = slice_get-map f xs k ∙ ap (option_map f) e
 
 -- where a row has something, it is there
-pub inside : {A : Type 0} (xs : List (List A)) (k j : ℕ) (a : A) → slice_get (slice_index_or xs k []) j ≡ Some a → slice_get xs k ≡ Some (slice_index_or xs k [])
+pub inside : {A : Type 0} (xs : List (List A)) (k j : ℕ) (a : A) → slice_get (slice_index_or xs k []) j ≡ Some a
+    → slice_get xs k ≡ Some (slice_index_or xs k [])
 inside [] k j a e = absurd (none-some a e)
 inside (y ∷ xs) zero j a e = refl
 inside (y ∷ xs) (suc k) j a e = inside xs k j a e
@@ -218,7 +219,8 @@ module _ (V : View) (x : ℕ) (grid : Grid) where
         of (Some c) e is =
             let same = same_Some (row, column) (place c) is in
             let there = of_first (λ (d : Cell). term_at grid d.row d.column ≡ Some d.term) (cell_holds V) (cells_for x grid) c e
-            (All-filter (λ (d : Cell). d.target == x) (λ (d : Cell). term_at grid d.row d.column ≡ Some d.term) (cells grid) (term-there grid)) in
+            (All-filter (λ (d : Cell). d.target == x) (λ (d : Cell). term_at grid d.row d.column ≡ Some d.term) (cells grid)
+            (term-there grid)) in
             (c, e, (λ i. term_at grid (same i).0 (same i).1) ∙ there)
 
     pub its_term : (e : Term) × (term_at grid row column ≡ Some e)

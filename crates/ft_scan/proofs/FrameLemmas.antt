@@ -3,7 +3,7 @@ use Rattle.std.proofs.Common.{◌≡◌, ◌∙◌, sym, ap, subst, refl, ℕ, �
 use Rattle.std.specs.Prelude.{IsTrue, unwrap_or}
 use Rattle.std.specs.List.{list_all}
 use Rattle.std.proofs.lemmas.Bool.{and_parts}
-use Rattle.std.proofs.lemmas.Option.{none-some, same_Some, slice_get_cases, slice_get_past, unwrap_or-slice_get, get_or_from_slice_get}
+use Rattle.std.proofs.lemmas.Option.{none-some, same_Some, slice_get_cases, slice_get_past, unwrap_or-slice_get}
 use Rattle.ft_core.specs.declared.tables.Tables.{Tables}
 use Rattle.ft_core.specs.declared.tables.Table.{Table}
 use Rattle.ft_core.specs.declared.tables.Var.{Var}
@@ -90,13 +90,15 @@ module _ (S : Tables) (s : Side) (place : ℕ) (table : Table) (there : slice_ge
 
   module _ (row column : ℕ) (is : slice_index_or frame.columns place 0 ≡ column) where
     entry_at : (has : HasEntry S s place row frame) → term_at table.grid row column ≡ Some has.term
-    entry_at has = subst (λ g. term_at g row column ≡ Some has.term) (sym (grid_at S s place table has.columns has.targets has.terms there has.there))
+    entry_at has = subst (λ g. term_at g row column ≡ Some has.term)
+        (sym (grid_at S s place table has.columns has.targets has.terms there has.there))
         (ap (slice_get (slice_index_or has.terms row [])) (sym is) ∙ has.at)
 
     pub has_entry : HasEntry S s place row frame → (e : Term) × (term_at table.grid row column ≡ Some e)
     has_entry has = (has.term, entry_at has)
 
-    pub entry_found : (variable : ℕ) (z : ℤ) (now : List ℤ) → ((e : Term) → term_at table.grid row column ≡ Some e → z ≡ value (view_of frame) e)
+    pub entry_found : (variable : ℕ) (z : ℤ) (now : List ℤ)
+        → ((e : Term) → term_at table.grid row column ≡ Some e → z ≡ value (view_of frame) e)
         → now ≡ slice_set frame.now variable z → HasEntry S s place row frame
         → FindsEntry S s variable place row frame (record { now = now; past = frame.past; truths = frame.truths; columns = frame.columns; runs = frame.runs })
     entry_found variable z now value_is put has =
@@ -112,15 +114,16 @@ module _ (S : Tables) (s : Side) (place : ℕ) (table : Table) (there : slice_ge
         }
 
 -- the table of a variable has a cell for it that holds, and gives its value
-module _ (L : Laws) (S : Tables) (s : Side) (place : ℕ) (table : Table) (there : slice_get S.tables place ≡ Some table) (frame : Frame) (x : ℕ)
-    (has : HasCell S s x place frame) where
+module _ (L : Laws) (S : Tables) (s : Side) (place : ℕ) (table : Table) (there : slice_get S.tables place ≡ Some table)
+    (frame : Frame) (x : ℕ) (has : HasCell S s x place frame) where
   mine : IsTrue (is_for (section_of s) x table)
   mine = for_it S.tables (section_of s) x place has.there table there
 
   pub cell_missed : IsFound (view_of frame) (cells_for x table.grid) None → ⊥
   cell_missed none = (found_none L) S (section_of s) x place table there mine (view_of frame) has.z none has.is
 
-  pub cell_found : (z : ℤ) → IsFound (view_of frame) (cells_for x table.grid) (Some z) → IsTrue (defined S (section_of s) (view_of frame) x z)
+  pub cell_found : (z : ℤ) → IsFound (view_of frame) (cells_for x table.grid) (Some z)
+      → IsTrue (defined S (section_of s) (view_of frame) x z)
   cell_found z found = (found_defined L) S (section_of s) x place table there mine (view_of frame) z found
 
 -- what is safe by a test is safe by one that follows from it
@@ -129,8 +132,8 @@ by_less : {V : View} {test other : List Var → List Memory → Bool} → ((vars
 by_less h s = record { vars = s.vars; memories = s.memories; keeps = s.keeps; small = h s.vars s.memories s.small }
 
 -- a term of a safe table is safe
-term_passes : (test : Term → Bool) (terms : List (List Term)) (row column : ℕ) (e : Term) → slice_get (slice_index_or terms row []) column ≡ Some e
-    → list_all (list_all test) terms ≡ true → test e ≡ true
+term_passes : (test : Term → Bool) (terms : List (List Term)) (row column : ℕ) (e : Term)
+    → slice_get (slice_index_or terms row []) column ≡ Some e → list_all (list_all test) terms ≡ true → test e ≡ true
 term_passes test terms row column e there all =
     all_at test (slice_index_or terms row []) column e
     (all_at (list_all test) terms row (slice_index_or terms row []) all (inside terms row column e there)) there
@@ -138,12 +141,15 @@ term_passes test terms row column e there all =
 term_sized : (vars : List Var) (memories : List Memory) (grid : Grid) (row column : ℕ) (e : Term) → term_at grid row column ≡ Some e
     → IsTrue (is_sized_grid vars memories grid) → IsTrue (is_sized_term vars memories e)
 term_sized vars memories (Normal target columns rows terms) row column e there sized =
-    term_passes (is_sized_term vars memories) terms row column e there (and_parts _ (list_all (list_all (is_sized_term vars memories)) terms) sized).1
+    term_passes (is_sized_term vars memories) terms row column e there
+    (and_parts _ (list_all (list_all (is_sized_term vars memories)) terms) sized).1
 term_sized vars memories (Inverted target terms rows grid) row column e there sized =
     all_at (is_sized_term vars memories) terms column e
-    (and_parts (list_all (is_sized_term vars memories) terms) _ (and_parts _ (list_all (list_all (is_sized vars memories)) grid) sized).0).0 there
+    (and_parts (list_all (is_sized_term vars memories) terms) _
+    (and_parts _ (list_all (list_all (is_sized vars memories)) grid) sized).0).0 there
 term_sized vars memories (Vector columns targets terms) row column e there sized =
-    term_passes (is_sized_term vars memories) terms row column e there (and_parts _ (list_all (list_all (is_sized_term vars memories)) terms) sized).1
+    term_passes (is_sized_term vars memories) terms row column e there
+    (and_parts _ (list_all (list_all (is_sized_term vars memories)) terms) sized).1
 
 pub term_safe : (V : View) (grid : Grid) (row column : ℕ) (e : Term) → term_at grid row column ≡ Some e → IsSafeGrid V grid → IsSafe V e
 term_safe V grid row column e there = by_less (λ vars memories. term_sized vars memories grid row column e there)

@@ -28,7 +28,8 @@ all-from P n [] h = All-nil P
 all-from P n (x ∷ xs) h = All-cons P (n, x) (enumerate_from (n + 1) xs) (subst (λ m. P (m, x)) (add-zero n) (h zero x refl))
     (all-from P (n + 1) xs (λ k a e. subst (λ m. P (m, a)) (one-on n k) (h (suc k) a e)))
 
-all-numbered : {A : Type 0} (P : ℕ × A → Type 0) (xs : List A) → ((k : ℕ) (a : A) → slice_get xs k ≡ Some a → P (k, a)) → All P (numbered xs)
+all-numbered : {A : Type 0} (P : ℕ × A → Type 0) (xs : List A) → ((k : ℕ) (a : A) → slice_get xs k ≡ Some a → P (k, a))
+    → All P (numbered xs)
 all-numbered P xs h = all-from P 0 xs (λ k a e. subst (λ m. P (m, a)) (sym (zero-add k)) (h k a e))
 
 all-flat_map : {A B : Type 0} (P : B → Type 0) (give : A → List B) (xs : List A) → All (λ a. All P (give a)) xs → All P (flat_map give xs)

@@ -15,4 +15,5 @@ unreachable-requires g c = none-some c.requires.entry.0 (c.in-None.ensures ∙ c
 pub returns : goal.returns
 returns g c = λ e is.
     let fits : FitsSigned w64 c.value_of.result = search rules in
-    simp to_z-of_z (c.value_of.ensures ∙ ap (value (g.L.Look.view c.args.look.now)) (same_Some c.in-Some.term.now e (c.in-Some.ensures ∙ is)))
+    simp to_z-of_z (c.value_of.ensures ∙ ap (value (g.L.Look.view c.args.look.now))
+    (same_Some c.in-Some.term.now e (c.in-Some.ensures ∙ is)))

@@ -6,7 +6,8 @@ use Rattle.ft_scan.proofs.TableLemmas.{grid_safe}
 use Rattle.ft_scan.proofs.mapping.put_cell.Goals as goal
 
 pub value_in-requires : goal.value_in-requires
-value_in-requires g c = grid_safe c.args.tables.now c.requires.table.0 c.args.table.now c.requires.table.1 (g.L.Look.view c.args.look.now) c.requires.can.keeps
+value_in-requires g c = grid_safe c.args.tables.now c.requires.table.0 c.args.table.now c.requires.table.1
+    (g.L.Look.view c.args.look.now) c.requires.can.keeps
 
 pub returns-in_default : goal.returns-in_default
 returns-in_default g c = (finds_none c.laws.ensures) c.args.tables.now c.args.section (g.L.Look.view c.args.look.now) c.requires.can c.args.table.now c.requires.table

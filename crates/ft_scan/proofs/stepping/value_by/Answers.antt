@@ -6,8 +6,8 @@ use Rattle.ft_scan.proofs.TableLemmas.{grid_safe}
 use Rattle.ft_scan.proofs.stepping.value_by.Goals as goal
 
 pub value_in-requires : goal.value_in-requires
-value_in-requires c = grid_safe c.args.tables.now c.args.table c.get-its_table.result.now c.get-its_table.ensures (view_of c.args.frame.now)
-    c.requires.keeps
+value_in-requires c = grid_safe c.args.tables.now c.args.table c.get-its_table.result.now c.get-its_table.ensures
+    (view_of c.args.frame.now) c.requires.keeps
 
 pub unreachable-requires : goal.unreachable-requires
 unreachable-requires c = (cell_missed c.laws.ensures) c.args.tables.now c.requires.has.0 c.args.table c.get-its_table.result.now
