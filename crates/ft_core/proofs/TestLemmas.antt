@@ -1,5 +1,5 @@
 -- What passes the tests is checked.
-use Rattle.std.proofs.Common.{arith, ◌≡◌, ◌∙◌, sym, ap, subst, refl, inl, inr, ⊎_elim, ℕ, zero, suc, ◌+◌, ◌-◌, ◌<◌, ◌≤◌, ℤ, pos, int_le, Bool, true, false, not, ◌&&◌, ◌||◌, IsTrue, true≢false, List, [], ◌∷◌, ◌++◌, length, slice_get, Some, Contains}
+use Rattle.std.proofs.Common.{arith, ◌≡◌, ◌∙◌, sym, ap, subst, refl, inl, inr, ⊎_elim, ℕ, zero, suc, ◌+◌, ◌-◌, ◌<◌, ◌≤◌, ℤ, pos, int_le, Bool, true, false, not, ◌&&◌, ◌||◌, IsTrue, true≢false, List, [], ◌∷◌, ◌++◌, length, slice_get, Some}
 use Rattle.std.specs.Prelude.{◌==◌, nat_le, nat_lt, unsigned_abs}
 use Rattle.std.specs.List.{list_all, list_any, sum_by}
 use Rattle.std.specs.Str.{bytes_eq}
