@@ -1,5 +1,5 @@
 -- What passes the tests is checked.
-use Rattle.std.proofs.Common.{arith, ◌≡◌, ◌∙◌, sym, ap, subst, refl, inl, inr, ⊎_elim, ℕ, zero, suc, ◌+◌, ◌-◌, ◌<◌, ◌≤◌, ℤ, pos, int_le, Bool, true, false, not, ◌&&◌, ◌||◌, IsTrue, true≢false, List, [], ◌∷◌, ◌++◌, length, slice_get, Some, Contains}
+use Rattle.std.proofs.Common.{arith, ◌≡◌, ◌∙◌, sym, ap, subst, refl, inl, inr, ⊎_elim, ℕ, zero, suc, ◌+◌, ◌-◌, ◌<◌, ◌≤◌, ℤ, pos, int_le, Bool, true, false, not, ◌&&◌, ◌||◌, IsTrue, true≢false, List, [], ◌∷◌, ◌++◌, length, slice_get, Some}
 use Rattle.std.specs.Prelude.{◌==◌, nat_le, nat_lt, unsigned_abs}
 use Rattle.std.specs.List.{list_all, list_any, sum_by}
 use Rattle.std.specs.Str.{bytes_eq}
@@ -28,6 +28,7 @@ use Rattle.ft_core.specs.checked.Distinct.{AreDistinct}
 use Rattle.ft_core.specs.meaning.Grids.{defines}
 use Rattle.ft_core.specs.meaning.Kinds.{controlled, defined_kinds, is_of}
 use Rattle.ft_core.specs.checked.Names.{AreNamed, declared_names, is_set_name}
+use Rattle.ft_core.specs.laws.Lists.{all_pass}
 use Rattle.ft_core.specs.laws.Places.{place-of}
 use Rattle.ft_core.specs.meaning.Reads.{cond_reads}
 use Rattle.ft_core.specs.checked.Size.{is_sized}
@@ -38,9 +39,6 @@ at-place : {A : Type 0} (test : A → Bool) (xs : List A) → list_all test xs �
 at-place test [] h k x e = absurd (none-some x e)
 at-place test (y ∷ xs) h zero x e = subst (λ z. test z ≡ true) (same_Some y x e) (and_parts (test y) (list_all test xs) h).0
 at-place test (y ∷ xs) h (suc k) x e = at-place test xs (and_parts (test y) (list_all test xs) h).1 k x e
-
-of-all : {A : Type 0} (test : A → Bool) (xs : List A) → list_all test xs ≡ true → (x : A) → Contains xs x → test x ≡ true
-of-all test xs h x c = let p = place-of xs x c in at-place test xs h p.0 x p.1
 
 any-at : {A : Type 0} (test : A → Bool) (xs : List A) (k : ℕ) (x : A) → slice_get xs k ≡ Some x → test x ≡ true → list_any test xs ≡ true
 any-at test [] k x e is = absurd (none-some x e)
@@ -140,11 +138,11 @@ module _ (vars : List Var) (memories : List Memory) (blocks : List Block) (h : l
     few = low (length blocks) 400 few;
     few_facts = low (sum_by (λ block. length block.facts) blocks) 400 few_facts;
     some_fact = λ b block e. some (length block.facts) (tests b block e).0;
-    takes = λ b block t e c. of-all (may_take vars memories) block.takes (tests b block e).1 t c;
+    takes = λ b block t e c. all_pass (may_take vars memories) block.takes (tests b block e).1 t c;
     takes_differ = λ b block e. distinct is_same_take self-take block.takes (tests b block e).2;
-    uses = λ b block used e c. of-all (names_invariant blocks) block.uses (tests b block e).3 used c;
+    uses = λ b block used e c. all_pass (names_invariant blocks) block.uses (tests b block e).3 used c;
     uses_differ = λ b block e. distinct is_same_place self-place block.uses (tests b block e).4;
-    invariants_read = λ b f block name c r e at in_c. of-all (may_show vars memories) (cond_reads c) (shown b f block name c e at).0 r in_c;
+    invariants_read = λ b f block name c r e at in_c. all_pass (may_show vars memories) (cond_reads c) (shown b f block name c e at).0 r in_c;
     invariants_sized = λ b f block name c e at. (shown b f block name c e at).1;
     invariants_short = λ b f block name c e at. (shown b f block name c e at).2;
     goals = λ b f x block e at. at-place (is_shown vars memories) block.facts (tests b block e).5 f (Goal x) at;
@@ -177,7 +175,7 @@ by-tests name splits depth vars memories tables first always step blocks P = let
     members = λ x v e. (var x v e).0;
     members_differ = λ x v e. distinct bytes_eq self-bytes v.members (var x v e).1;
     members_apart = λ x v member e c d. let p = place-of declared member d in
-        refuted (list_any (bytes_eq member) declared) (of-all (λ m. not (list_any (bytes_eq m) declared)) v.members (var x v e).2 member c)
+        refuted (list_any (bytes_eq member) declared) (all_pass (λ m. not (list_any (bytes_eq m) declared)) v.members (var x v e).2 member c)
         (any-at (bytes_eq member) declared p.0 member p.1 (self-bytes member));
   };
   few_splits = low splits 200000 (and_parts (nat_le splits 200000) _ P.numbers).0;

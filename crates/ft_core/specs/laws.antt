@@ -2,5 +2,9 @@
 pub mod CellTerms
 pub mod CheckedTests
 pub mod Equations
+pub mod Lists
 pub mod Places
+pub mod Ranges
+pub mod Sections
 pub mod SizeEquations
+pub mod VarPlaces

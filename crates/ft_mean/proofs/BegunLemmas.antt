@@ -14,12 +14,6 @@ module _ (S : Tables) (ρ : Reading) where
   pub begun_first : begun S ρ zero ≡ zero
   begun_first = begun_here S ρ zero (begins_first S ρ)
 
-  -- so many scans back, where none of them begins
-  pub begun_back : (t back : ℕ) → back < t → begins S ρ (t - back) ≡ false → begun S ρ (t - back) ≡ begun S ρ (t - (back + 1))
-  begun_back t back below is =
-      let next : t - back ≡ suc (t - (back + 1)) = omega (arith, below) in
-      ap (begun S ρ) next ∙ begun_past S ρ (t - (back + 1)) (ap (begins S ρ) (sym next) ∙ is)
-
   pub before_begins : (t x : ℕ) → begins S ρ t ≡ true → before S ρ t x ≡ init_of S x
   before_begins t x is = cond-true (begins S ρ t) (init_of S x) (ρ (scan_before t) x) is
 

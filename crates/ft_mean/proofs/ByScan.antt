@@ -1,5 +1,5 @@
 -- IN, OUT and NAT, scan by scan.
-use Rattle.std.proofs.Common.{◌≡◌, ◌∙◌, sym, subst, ap, refl, ℕ, zero, suc, ◌<◌, ℤ, Bool, true, false, cond, ◌&&◌, [], ◌∷◌, length, List, slice_index_or, arith, ⊎_elim, true≢false}
+use Rattle.std.proofs.Common.{◌≡◌, ◌∙◌, sym, subst, ap, refl, ℕ, zero, suc, ◌<◌, ℤ, Bool, true, false, cond, ◌&&◌, [], ◌∷◌, length, List, slice_index_or, arith, ⊎_elim}
 use Rattle.std.specs.List.{list_all}
 use Rattle.std.proofs.lemmas.Bool.{cases_Bool}
 use Rattle.ft_base.specs.Interval.{IsWithin}
@@ -8,6 +8,7 @@ use Rattle.ft_core.specs.declared.tables.Section.{Section}
 use Rattle.ft_core.specs.declared.tables.Section.TheVariants as section
 use Rattle.ft_core.specs.declared.tables.Side.TheVariants as side
 use Rattle.ft_core.specs.declared.term.Cond.{Cond}
+use Rattle.ft_core.specs.laws.Lists.{from_one}
 use Rattle.ft_core.specs.meaning.Kinds.{Kinds, monitored, controlled, outputs, image_kinds, side_kinds, count_of}
 use Rattle.ft_core.specs.meaning.Reads.{Read, at_now, at_before, of_memory, of_age, cond_reads}
 use Rattle.ft_core.specs.checked.Sound.{AllRead, now_of, step_of}
@@ -17,11 +18,11 @@ use Rattle.ft_mean.specs.meaning.Memory.{look}
 use Rattle.ft_mean.specs.meaning.Cells.{Follows}
 use Rattle.ft_mean.specs.meaning.Allowed.{nat_at}
 use Rattle.ft_mean.specs.meaning.Fits.{Maps}
+use Rattle.ft_mean.specs.laws.Alike.{now_alike, step_alike}
 use Rattle.ft_mean.specs.laws.Laws.{GoesByScan, MapsByScan, OutputsAlone, AllowedByScan}
 use Rattle.ft_mean.proofs.Agree.{Same}
 use Rattle.ft_mean.proofs.BegunLemmas.{before_begins}
 use Rattle.ft_mean.proofs.CellLemmas.{own_reads, all_alike}
-use Rattle.ft_mean.proofs.Passes.{from_one}
 use Rattle.ft_mean.proofs.TimeLemmas.{begins_first, begins_later}
 use Rattle.ft_mean.proofs.ImageLemmas.{none_given}
 use Rattle.ft_mean.proofs.WellFormed.{opened, IsOf, NowOf, MayRead, IsWellFormed}
@@ -109,19 +110,6 @@ pub clauses_alike : (may : Read → Bool) (conds : List Cond) (V W : View) → A
     → list_all (truth V) conds ≡ list_all (truth W) conds
 clauses_alike may conds V W all same =
     all_alike V W conds (λ r c. let at = from_one cond_reads conds r c in same r (all at.0 at.1 r at.2 at.3))
-
-module _ (S : Tables) (V W : View) (now : (x : ℕ) → V.now x ≡ W.now x) where
-  now_alike : (r : Read) → now_of S.vars monitored r ≡ true → Same V W r
-  now_alike (at_now x) may = now x
-  now_alike (at_before x) may = absurd (true≢false (sym may))
-  now_alike (of_memory m) may = absurd (true≢false (sym may))
-  now_alike (of_age m) may = absurd (true≢false (sym may))
-
-  step_alike : ((x : ℕ) → V.before x ≡ W.before x) → (r : Read) → step_of S.vars monitored r ≡ true → Same V W r
-  step_alike past (at_now x) may = now x
-  step_alike past (at_before x) may = past x
-  step_alike past (of_memory m) may = absurd (true≢false (sym may))
-  step_alike past (of_age m) may = absurd (true≢false (sym may))
 
 -- the clauses of a scan by whether it begins
 nat_by : (S : Tables) (ρ : Reading) (t : ℕ) (anew : Bool) → begins S ρ t ≡ anew

@@ -35,9 +35,6 @@ overlay_at a t f x = cond-true (t == t) (f x) (a t x) (eq-eqb t t refl)
 pub overlay_past : (a : Reading) (t : ℕ) (f : ℕ → ℤ) (j x : ℕ) → j < t → overlay a t f j x ≡ a j x
 overlay_past a t f j x l = cond-false (j == t) (f x) (a j x) (ne_eqb j t (λ e. absurd (omega (arith, e, l))))
 
-pub overlay_other : (a : Reading) (t : ℕ) (f : ℕ → ℤ) (j x : ℕ) → (t ≡ j → ⊥) → overlay a t f j x ≡ a j x
-overlay_other a t f j x differs = cond-false (j == t) (f x) (a j x) (ne_eqb j t (λ e. differs (sym e)))
-
 pub overlay_range : (S : Tables) (a : Reading) (t : ℕ) (f : ℕ → ℤ) → AllInRange S a
     → ((x : ℕ) (v : Var) → slice_get S.vars x ≡ Some v → IsWithin v.range (f x)) → AllInRange S (overlay a t f)
 overlay_range S a t f range in_range j x v is =

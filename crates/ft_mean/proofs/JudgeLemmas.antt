@@ -35,7 +35,8 @@ use Rattle.ft_mean.proofs.OneScan.{table_of, defined_same}
 use Rattle.ft_mean.proofs.BegunLemmas.{before_by}
 use Rattle.ft_mean.proofs.PastLemmas.{same_held, same_hyst}
 use Rattle.ft_mean.proofs.RecallLemmas.{rows_kept, past_kept}
-use Rattle.ft_mean.proofs.TraceTests.{through_at, through_from, asked_of, when_of, list_is, list_from}
+use Rattle.ft_mean.specs.laws.ScanTests.{asked_of, list_is, through_at}
+use Rattle.ft_mean.proofs.TraceTests.{through_from, when_of, list_from}
 use Rattle.ft_mean.proofs.Traces.{reading_range}
 
 -- a table of numbers at a place, where there is none beyond its width

@@ -5,7 +5,6 @@ pub mod BoundLemmas
 pub mod ByScan
 pub mod CellLemmas
 pub mod CellReads
-pub mod CountLemmas
 pub mod Examples
 pub mod Exists
 pub mod FirstCell
@@ -19,7 +18,6 @@ pub mod MapsLaw
 pub mod MemoryLemmas
 pub mod MovesLaw
 pub mod OneScan
-pub mod Passes
 pub mod PastLemmas
 pub mod RecallLemmas
 pub mod RowReads

@@ -22,7 +22,8 @@ use Rattle.ft_mean.specs.meaning.Cells.{holding, cells_of, defined}
 use Rattle.ft_mean.specs.meaning.Proper.{IsLocal, AllProper}
 use Rattle.ft_mean.proofs.Agree.{AllSame}
 use Rattle.ft_mean.proofs.CellLemmas.{OneCell, one_cell, cells_alike, cells_of-is, own_reads, same_defined}
-use Rattle.ft_mean.proofs.WellFormed.{IsOf, IsTable, OnSide, MayRead, IsWellFormed, is_for_from}
+use Rattle.ft_core.specs.laws.Sections.{is_for_from}
+use Rattle.ft_mean.proofs.WellFormed.{IsOf, IsTable, OnSide, MayRead, IsWellFormed}
 use Rattle.ft_mean.proofs.MemoryLemmas.{look_same}
 
 -- the one table of a section for a variable

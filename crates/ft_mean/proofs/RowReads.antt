@@ -5,12 +5,13 @@ use Rattle.ft_core.specs.meaning.Kinds.{place_of, is_of}
 use Rattle.ft_mean.specs.meaning.Reading.{init_of}
 use Rattle.ft_mean.specs.laws.RowLaws.{PlacesAreInside, PlacesAreTaken, SameRows, ReadAtPlace, ReadInRange, ReadInFront, HasRows, GivenOrDefined}
 use Rattle.ft_mean.proofs.OneScan.{given_or_defined}
-use Rattle.ft_mean.proofs.Rows.{place-below, placed, same_rows, length-gathered}
+use Rattle.ft_core.specs.laws.VarPlaces.{below-count}
+use Rattle.ft_mean.proofs.Rows.{placed, same_rows, length-gathered}
 use Rattle.ft_mean.proofs.Traces.{reading_at, reading_range, rows, length-rows, row_at, reading-rows}
 use Rattle.ft_mean.proofs.WellFormed.{opened}
 
 pub inside : PlacesAreInside
-inside S kinds x v is = place-below kinds S.vars x v is.0 is.1
+inside S kinds x v is = below-count kinds S.vars x v is.0 is.1
 
 pub taken : PlacesAreTaken
 taken S kinds k below =

@@ -12,7 +12,8 @@ use Rattle.ft_mean.specs.meaning.Cells.{cells_of}
 use Rattle.ft_mean.specs.laws.TableLaws.{HasTable, CellsAreOfTable, CellsMayRead, SameDefined, SectionsAreTold, HasOneValue}
 use Rattle.ft_mean.proofs.CellLemmas.{Each, OfCell, each-append, each-filter, reads_each, cells_read, cells_of-is, cells_alike, same_defined}
 use Rattle.ft_mean.proofs.OneScan.{table_of, answer}
-use Rattle.ft_mean.proofs.WellFormed.{opened, same_section, section_self, is_for_from}
+use Rattle.ft_core.specs.laws.Sections.{is_for_from, same_section, section_self}
+use Rattle.ft_mean.proofs.WellFormed.{opened}
 
 each-flat : {A B : Type 0} (P : B → Type 0) (f : A → List B) (xs : List A) → ((k : ℕ) (a : A) → slice_get xs k ≡ Some a → Each P (f a)) → Each P (flat_map f xs)
 each-flat P f [] h = tt

@@ -3,9 +3,7 @@ use Rattle.std.proofs.Common.{◌≡◌, ◌∙◌, sym, ap, subst, refl, ℕ, z
 use Rattle.std.specs.Prelude.{IsTrue}
 use Rattle.std.specs.List.{Contains, list_any, flat_map}
 use Rattle.std.proofs.lemmas.Int.{ints}
-use Rattle.std.proofs.lemmas.List.Elements.{Contains-append_left, Contains-append_right}
-use Rattle.std.proofs.lemmas.Bool.{and_parts, and_from, or_cases, or_left, or_right, cases_Bool, cond_both, cond-true, cond-false}
-use Rattle.std.proofs.lemmas.Option.{none-some, same_Some}
+use Rattle.std.proofs.lemmas.Bool.{and_parts, or_cases, cases_Bool, cond_both, cond-true, cond-false}
 use Rattle.std.proofs.Props.{props}
 use Rattle.std.proofs.Math.Logic.{∥∥₁_elim}
 use Rattle.ft_base.specs.Interval.{IsWithin}
@@ -18,6 +16,8 @@ use Rattle.ft_core.specs.declared.tables.Side.{Side}
 use Rattle.ft_core.specs.declared.tables.Side.TheVariants as side
 use Rattle.ft_core.specs.declared.tables.Section.{Section}
 use Rattle.ft_core.specs.declared.tables.Section.TheVariants as section
+use Rattle.ft_core.specs.laws.Lists.{in_all}
+use Rattle.ft_core.specs.laws.Sections.{is_for_from, of_side, same_section, same_side}
 use Rattle.ft_core.specs.meaning.Kinds.{Kinds, monitored, outputs, side_kinds, defined_kinds, section_of}
 use Rattle.ft_core.specs.meaning.Grids.{cells_for, defines, is_section, is_for}
 use Rattle.ft_core.specs.meaning.Reads.{Read, at_now, at_before, of_memory, of_age, memory_reads, grid_reads, cell_reads}
@@ -27,12 +27,6 @@ use Rattle.ft_mean.specs.meaning.Reading.{IsVar}
 -- the table at this place, where it is of this section
 abbrev pub IsTable : Tables → Section → ℕ → Table → Type 0
 IsTable S section k table = (slice_get S.tables k ≡ Some table) × (table.section ≡ section)
-
--- what one of the items has, all have together
-pub in_all : {A B : Type 0} (f : A → List B) (xs : List A) (k : ℕ) (a : A) (b : B) → slice_get xs k ≡ Some a → Contains (f a) b → Contains (flat_map f xs) b
-in_all f [] k a b e c = absurd (none-some a e)
-in_all f (x ∷ xs) zero a b e c = Contains-append_left (f x) (flat_map f xs) b (subst (λ y. Contains (f y) b) (sym (same_Some x a e)) c)
-in_all f (x ∷ xs) (suc k) a b e c = Contains-append_right (f x) (flat_map f xs) b (in_all f xs k a b e c)
 
 abbrev pub IsOf : Tables → Kinds → ℕ → Type 0
 IsOf S kinds x = (v : Var) × IsVar S kinds x v
@@ -80,39 +74,6 @@ pub record IsWellFormed (S : Tables) : Type 0 where
       → IsTrue (defines a.grid x) → IsTrue (defines b.grid x) → k ≡ l
   pub rank : Read → ℕ
   pub order : IsOrder S rank
-
-pub same_section : (a b : Section) → is_section a b ≡ true → a ≡ b
-same_section section.In section.In e = refl
-same_section section.Req section.Req e = refl
-same_section section.Sof section.Sof e = refl
-same_section section.Out section.Out e = refl
-same_section section.In section.Req e = absurd (true≢false (sym e))
-same_section section.In section.Sof e = absurd (true≢false (sym e))
-same_section section.In section.Out e = absurd (true≢false (sym e))
-same_section section.Req section.In e = absurd (true≢false (sym e))
-same_section section.Req section.Sof e = absurd (true≢false (sym e))
-same_section section.Req section.Out e = absurd (true≢false (sym e))
-same_section section.Sof section.In e = absurd (true≢false (sym e))
-same_section section.Sof section.Req e = absurd (true≢false (sym e))
-same_section section.Sof section.Out e = absurd (true≢false (sym e))
-same_section section.Out section.In e = absurd (true≢false (sym e))
-same_section section.Out section.Req e = absurd (true≢false (sym e))
-same_section section.Out section.Sof e = absurd (true≢false (sym e))
-
-pub section_self : (a : Section) → is_section a a ≡ true
-section_self section.In = refl
-section_self section.Req = refl
-section_self section.Sof = refl
-section_self section.Out = refl
-
-pub is_for_from : (section : Section) (x : ℕ) (table : Table) → table.section ≡ section → IsTrue (defines table.grid x) → is_for section x table ≡ true
-is_for_from section x table e d = and_from (is_section table.section section) (defines table.grid x) (ap (is_section table.section) (sym e) ∙ section_self table.section) d
-
-pub same_side : (a b : Side) → is_side a b ≡ true → a ≡ b
-same_side side.Req side.Req e = refl
-same_side side.Sof side.Sof e = refl
-same_side side.Req side.Sof e = absurd (true≢false (sym e))
-same_side side.Sof side.Req e = absurd (true≢false (sym e))
 
 module _ (S : Tables) where
   pub of_test : (kinds : Kinds) (x : ℕ) (o : Option Var) → slice_get S.vars x ≡ o → elim o as (λ z. Bool) [ None ↦ false | Some v ↦ kinds x v ] ≡ true → IsOf S kinds x
@@ -217,11 +178,6 @@ module _ (vars : List Var) (memories : List Memory) (tables : List Table) where
   -- a fact without a second proof needs no rank at hand
   pub ranked : ∥ HasOrder vars memories tables ∥₁ → IsRank vars memories tables whole
   ranked h = ∥∥₁_elim h (hlevel props) (λ o. level_rank o.0 o.1)
-
--- a table of a side for a variable is one that it reads by
-pub of_side : (s : Side) (x : ℕ) (table : Table) → is_for (section_of s) x table ≡ true → (is_for section.Req x table || is_for section.Sof x table) ≡ true
-of_side side.Req x table e = or_left (is_for section.Req x table) (is_for section.Sof x table) e
-of_side side.Sof x table e = or_right (is_for section.Req x table) (is_for section.Sof x table) e
 
 pub opened : (S : Tables) → IsWellFormed S
 opened S = let h = S.sound in record {

@@ -1,4 +1,6 @@
--- Laws over these definitions: the clauses of the functions of src/law.rt.
+-- Laws over these definitions, the clauses of the functions of src/law.rt, and equations that need no tactic.
+pub mod Alike
+pub mod Ends
 pub mod Equations
 pub mod EvaluationLaws
 pub mod Laws
@@ -7,6 +9,7 @@ pub mod Moves
 pub mod PastLaws
 pub mod RowLaws
 pub mod SafetyLaws
+pub mod ScanTests
 pub mod TableLaws
 pub mod TimeLaws
 pub mod TraceLaws

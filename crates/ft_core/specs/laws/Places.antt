@@ -1,7 +1,7 @@
 -- What stands at a place of a list that is made of others, without a tactic: the crates above cite these too.
-use Rattle.std.proofs.Common.{◌≡◌, ◌∙◌, sym, ap, refl, ◌⊎◌, inl, inr, ℕ, zero, suc, ◌<◌, List, [], ◌∷◌, ◌++◌, length, slice_get, slice_set, Some, Contains, replicate}
+use Rattle.std.proofs.Common.{◌≡◌, ◌∙◌, sym, ap, subst, refl, ◌⊎◌, inl, inr, ℕ, zero, suc, ◌<◌, List, [], ◌∷◌, ◌++◌, length, get_or, slice_get, slice_set, Some, Contains, replicate}
 use Rattle.std.proofs.Math.Nat.{not-suc-le-zero, le_of_suc-le-suc, suc-ne-zero}
-use Rattle.std.proofs.lemmas.Option.{same_Some, none-some, slice_get_within, slice_get-get_or, get_or_from_slice_get}
+use Rattle.std.proofs.lemmas.Option.{same_Some, none-some, slice_get_within, slice_get_read, slice_get-get_or, get_or_from_slice_get}
 
 pub one-at : {X : Type 0} (xs : List X) (i : ℕ) (x y : X) → slice_get xs i ≡ Some x → slice_get xs i ≡ Some y → x ≡ y
 one-at xs i x y a b = same_Some x y (sym a ∙ b)
@@ -64,3 +64,7 @@ pub some-at : {X : Type 0} (xs : List X) (i : ℕ) → i < length xs → (x : X)
 some-at [] i less = absurd (not-suc-le-zero less)
 some-at (a ∷ xs) zero less = (a, refl)
 some-at (a ∷ xs) (suc i) less = some-at xs i (le_of_suc-le-suc less)
+
+-- the item of a loop over a list stands at its place
+pub item-there : {X : Type 0} (xs items : List X) (i : ℕ) (x : X) → items ≡ xs → i < length items → x ≡ get_or items i x → slice_get xs i ≡ Some x
+item-there xs items i x same less is = subst (λ zs. slice_get zs i ≡ Some x) same (slice_get_read items (length items) i x refl less is)

@@ -5,7 +5,7 @@ use Rattle.std.proofs.lemmas.Int.{to_z-of_z}
 use Rattle.ft_core.specs.checked.Size.{is_sized_term, is_sized}
 use Rattle.ft_mean.specs.meaning.Value.{value, truth}
 use Rattle.ft_mean.proofs.SafeLemmas.{safe_by}
-use Rattle.ft_mean.proofs.Passes.{all_pass}
+use Rattle.ft_core.specs.laws.Lists.{all_pass}
 use Rattle.ft_mean.proofs.RecallLemmas.{pair_next, pair_at, pair_end}
 use Rattle.ft_mean.proofs.cells.has_entry.Goals as goal
 

@@ -6,7 +6,7 @@ use Rattle.ft_core.specs.meaning.Grids.{is_section}
 use Rattle.ft_core.specs.checked.Size.{is_sized_grid}
 use Rattle.ft_mean.specs.judge.Seen.{grid_gives}
 use Rattle.ft_mean.proofs.SafeLemmas.{safe_by}
-use Rattle.ft_mean.proofs.Passes.{all_pass}
+use Rattle.ft_core.specs.laws.Lists.{all_pass}
 use Rattle.ft_mean.proofs.RecallLemmas.{any_in, any_end}
 use Rattle.ft_mean.proofs.GivesLemmas.{defined-gives}
 use Rattle.ft_mean.proofs.cells.is_defined.Goals as goal

@@ -7,7 +7,7 @@ use Rattle.ft_core.specs.declared.term.Term.{Term}
 use Rattle.ft_core.specs.checked.Size.{is_sized_term}
 use Rattle.ft_mean.specs.judge.Seen.{gives_in}
 use Rattle.ft_mean.proofs.SafeLemmas.{safe_by}
-use Rattle.ft_mean.proofs.Passes.{all_pass}
+use Rattle.ft_core.specs.laws.Lists.{all_pass}
 use Rattle.ft_mean.proofs.RecallLemmas.{pair_next, pair_at, pair_end}
 use Rattle.ft_mean.proofs.cells.vector_has.Goals as goal
 

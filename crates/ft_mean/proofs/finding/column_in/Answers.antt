@@ -2,7 +2,7 @@ use Rattle.std.proofs.Common.{◌∙◌, sym, refl, arith}
 use Rattle.std.proofs.lemmas.Option.{slice_get_read}
 use Rattle.ft_core.specs.checked.Size.{is_sized}
 use Rattle.ft_mean.proofs.SafeLemmas.{safe_by}
-use Rattle.ft_mean.proofs.Passes.{all_pass}
+use Rattle.ft_core.specs.laws.Lists.{all_pass}
 use Rattle.ft_mean.proofs.FirstCell.{column_first, column_next, column_none}
 use Rattle.ft_mean.proofs.finding.column_in.Goals as goal
 

@@ -3,7 +3,7 @@ use Rattle.std.specs.List.{Contains}
 use Rattle.ft_core.specs.declared.tables.Memory.{Memory}
 use Rattle.ft_core.specs.checked.Size.{is_sized_memory}
 use Rattle.ft_mean.proofs.SafeLemmas.{safe_by}
-use Rattle.ft_mean.proofs.Passes.{all_pass}
+use Rattle.ft_core.specs.laws.Lists.{all_pass}
 use Rattle.ft_mean.proofs.recall.recalled_row.Goals as goal
 
 pub is_recalled-requires-clause-safe : goal.is_recalled-requires-clause-safe

@@ -1,7 +1,7 @@
 use Rattle.std.proofs.Common.{◌≡◌, ◌∙◌, sym, ap, ◌+◌, arith, slice_get, Some}
 use Rattle.std.proofs.lemmas.Option.{slice_get-get_or}
 use Rattle.ft_mean.specs.judge.Scope.{kinds_of}
-use Rattle.ft_mean.proofs.CountLemmas.{place_counted, place_passed}
+use Rattle.ft_core.specs.laws.VarPlaces.{counted, passed}
 use Rattle.ft_mean.proofs.scope.place_of.Goals as goal
 use Rattle.ft_mean.proofs.scope.place_of.Goals.{then-has, else-has}
 
@@ -12,12 +12,12 @@ loop-place-preserved c =
     elim c.if-has.branch [
       | then-has w ↦ (
         w.count-is ∙ ap (λ n. n + 1) c.loop-place.invariant.0
-            ∙ sym (place_counted (kinds_of c.args.scope) c.args.vars.now c.loop-place.place c.index-vars-place.result there (sym w.if-has.ensures)),
+            ∙ sym (counted (kinds_of c.args.scope) c.args.vars.now c.loop-place.place c.index-vars-place.result there (sym w.if-has.ensures)),
         omega (arith, w.count-is, c.loop-place.invariant.1),
       )
       | else-has w ↦ (
         w.count-is ∙ c.loop-place.invariant.0
-            ∙ sym (place_passed (kinds_of c.args.scope) c.args.vars.now c.loop-place.place c.index-vars-place.result there (sym w.if-has.ensures)),
+            ∙ sym (passed (kinds_of c.args.scope) c.args.vars.now c.loop-place.place c.index-vars-place.result there (sym w.if-has.ensures)),
         omega (arith, w.count-is, c.loop-place.invariant.1),
       )
     ]
