@@ -1,5 +1,6 @@
 -- Ways from item to item, and the search for a way back.
-use Rattle.std.proofs.Common.{arith, ◌≡◌, ◌∙◌, sym, ap, subst, refl, inl, inr, ℕ, zero, suc, ◌+◌, ◌-◌, ◌<◌, ◌≤◌, Bool, true, false, cond, List, [], ◌∷◌, ◌++◌, length, slice_get, slice_set, slice_index_or, Some, Contains, reverse, replicate}
+use Rattle.std.proofs.Common.{arith, ◌≡◌, ◌∙◌, sym, ap, subst, refl, inl, inr, ℕ, zero, suc, ◌+◌, ◌-◌, ◌<◌, ◌≤◌, Bool, true, false, cond}
+use Rattle.std.proofs.Common.{List, [], ◌∷◌, ◌++◌, length, slice_get, slice_set, slice_index_or, Some, Contains, reverse, replicate}
 use Rattle.std.proofs.lemmas.Bool.{cases_eq, cases_lt}
 use Rattle.std.proofs.lemmas.Option.{slice_get_within, slice_get-get_or, get_or_from_slice_get, same_Some}
 use Rattle.std.proofs.lemmas.List.{get_or_past, length-set, length-append, length-reverse, length-replicate, nil_from_length}
@@ -7,7 +8,8 @@ use Rattle.ft_core.specs.meaning.Order.{ReadsItem, IsCircle}
 use Rattle.std.proofs.lemmas.List.Sums.{sum_by-set}
 use Rattle.ft_core.specs.declared.circle.Search.{Search}
 use Rattle.ft_core.specs.walk.Circles.{Leads, one, more, IsSearch, Searches, AreRead, IsEnd, IsWayBack, IsMet, AreFollowed, unseen}
-use Rattle.ft_core.specs.laws.Places.{one-at, of-replicate, on-left, of-push, at-end, of-set, set-here, set-there, contained, place-of, some-at}
+use Rattle.ft_core.specs.laws.Places.{one-at, of-replicate, on-left, of-push, at-end, of-set, set-here, set-there, contained, place-of}
+use Rattle.ft_core.specs.laws.Places.{some-at}
 use Rattle.ft_core.proofs.PlaceLemmas.{of-single, of-reverse}
 
 -- one way after another
@@ -30,18 +32,21 @@ start-is-item reads k q (one r) = reader-is-item reads k q r
 start-is-item reads k q (more {m} w r) = start-is-item reads k m w
 
 -- a way never leaves a set that reads only itself
-pub stays : (reads : List (List ℕ)) (P : ℕ → Type 0) (k q : ℕ) → ((j : ℕ) → ReadsItem reads k j → P j) → ((i j : ℕ) → P i → ReadsItem reads i j → P j)
+pub stays : (reads : List (List ℕ)) (P : ℕ → Type 0) (k q : ℕ) → ((j : ℕ) → ReadsItem reads k j → P j)
+    → ((i j : ℕ) → P i → ReadsItem reads i j → P j)
     → Leads reads k q → P q
 stays reads P k q begins keeps (one r) = begins q r
 stays reads P k q begins keeps (more {m} w r) = keeps m q (stays reads P k m begins keeps w) r
 
 -- along a circle
-forward : (reads : List (List ℕ)) (items : List ℕ) → IsCircle reads items → (k q p d : ℕ) → slice_get items p ≡ Some k → slice_get items (p + suc d) ≡ Some q → Leads reads k q
+forward : (reads : List (List ℕ)) (items : List ℕ) → IsCircle reads items → (k q p d : ℕ) → slice_get items p ≡ Some k
+    → slice_get items (p + suc d) ≡ Some q → Leads reads k q
 forward reads items circle k q p zero at to = one (circle.next k q p at to)
 forward reads items circle k q p (suc d) at to =
     let within = slice_get_within items (p + suc (suc d)) q to in
     let m = some-at items (p + suc d) (omega (arith, within)) in
-    more (forward reads items circle k m.0 p d at m.1) (circle.next m.0 q (p + suc d) m.1 (subst (λ (i : ℕ). slice_get items i ≡ Some q) (omega arith) to))
+    more (forward reads items circle k m.0 p d at m.1) (circle.next m.0 q (p + suc d) m.1
+    (subst (λ (i : ℕ). slice_get items i ≡ Some q) (omega arith) to))
 
 -- each item of a circle leads back to itself
 pub comes-back : (reads : List (List ℕ)) (items : List ℕ) → IsCircle reads items → (k p : ℕ) → slice_get items p ≡ Some k → Leads reads k k
@@ -65,7 +70,8 @@ comes-back reads items circle k p at =
           subst (λ (i : ℕ). Leads reads k i) same to-first
       | inr other ↦
           let reaches : p ≡ 0 + suc (p - 1) = omega (arith, other) in
-          leads-on reads k first.0 k to-first (forward reads items circle first.0 k 0 (p - 1) first.1 (subst (λ (i : ℕ). slice_get items i ≡ Some k) reaches at))
+          leads-on reads k first.0 k to-first (forward reads items circle first.0 k 0 (p - 1) first.1
+          (subst (λ (i : ℕ). slice_get items i ≡ Some k) reaches at))
     ]
 
 pub first-back : (reads : List (List ℕ)) (items : List ℕ) → IsCircle reads items → (k : ℕ) × Leads reads k k
@@ -86,12 +92,14 @@ begun-with reads start item = let long = length-replicate (length reads) false i
   ];
   met_seen = λ k p is.
       let h = of-single start k p is in
-      subst (λ (i : ℕ). slice_get (slice_set (replicate (length reads) false) start true) i ≡ Some true) h.1 (set-here (replicate (length reads) false) start true (omega (arith, long, item)));
+      subst (λ (i : ℕ). slice_get (slice_set (replicate (length reads) false) start true) i ≡ Some true) h.1
+      (set-here (replicate (length reads) false) start true (omega (arith, long, item)));
   way = λ q p r some at up. let h = of-single start q p at in absurd (omega (arith, h.0, some));
 }
 
 pub begun : (reads : List (List ℕ)) (start : ℕ) (met parents : List ℕ) (seen : List Bool) → start < length reads
-    → met ≡ start ∷ [] → parents ≡ 0 ∷ [] → seen ≡ slice_set (replicate (length reads) false) start true → IsSearch reads start met parents seen
+    → met ≡ start ∷ [] → parents ≡ 0 ∷ [] → seen ≡ slice_set (replicate (length reads) false) start true
+    → IsSearch reads start met parents seen
 begun reads start met parents seen item a b c = rw (a, b, c) (begun-with reads start item)
 
 -- one more item is met
@@ -106,7 +114,11 @@ module _ (reads : List (List ℕ)) (start : ℕ) (met parents : List ℕ) (seen 
     flags = length-set seen item true ∙ is.flags;
     long = let l = is.long in omega (arith, length-append parents (at ∷ []), length-append met (item ∷ []), l);
     first = on-left met (item ∷ []) 0 start is.first;
-    items = λ k p h. elim (of-push met item p k h) [ inl o ↦ is.items k p o | inr (e, same) ↦ subst (λ (i : ℕ). i < length reads) same within ];
+    items = λ k p h. elim (of-push met item p k h) [
+      | inl o ↦ is.items k p o
+      | inr (e, same)
+          ↦ subst (λ (i : ℕ). i < length reads) same within
+    ];
     once = λ k p r a b. elim (of-push met item p k a) [
       | inl o ↦ elim (of-push met item r k b) [
         | inl u ↦ is.once k p r o u
@@ -122,7 +134,8 @@ module _ (reads : List (List ℕ)) (start : ℕ) (met parents : List ℕ) (seen 
       | inr (other, o) ↦ let m = is.seen_met k o in (m.0, on-left met (item ∷ []) m.0 k m.1)
     ];
     met_seen = λ k p h. elim (cases_eq k item) [
-      | inl e ↦ subst (λ (i : ℕ). slice_get (slice_set seen item true) i ≡ Some true) (sym e) (set-here seen item true (slice_get_within seen item false unmet))
+      | inl e ↦ subst (λ (i : ℕ). slice_get (slice_set seen item true) i ≡ Some true) (sym e)
+          (set-here seen item true (slice_get_within seen item false unmet))
       | inr other ↦ elim (of-push met item p k h) [
         | inl o ↦ set-there seen item true k other ∙ is.met_seen k p o
         | inr (e, same) ↦ absurd (other (sym same))
@@ -132,7 +145,8 @@ module _ (reads : List (List ℕ)) (start : ℕ) (met parents : List ℕ) (seen 
       | inl o ↦
           let inside = slice_get_within met p q o in
           let l = is.long in
-          let old-up : slice_get parents p ≡ Some r = elim (of-push parents at p r up) [ inl u ↦ u | inr (e, same) ↦ absurd (omega (arith, inside, e, l)) ] in
+          let old-up : slice_get parents p ≡ Some r = elim (of-push parents at p r up)
+          [ inl u ↦ u | inr (e, same) ↦ absurd (omega (arith, inside, e, l)) ] in
           let w = is.way q p r some o old-up in
           (w.0, w.1, on-left met (item ∷ []) r w.0 w.2, w.3)
       | inr (e, same) ↦
@@ -151,7 +165,8 @@ module _ (reads : List (List ℕ)) (start : ℕ) (met parents : List ℕ) (seen 
   }
 
 -- where every item's reads were met and none is the start, no way leads back to it
-pub no-way-back : (reads : List (List ℕ)) (start : ℕ) (met parents : List ℕ) (seen : List Bool) (at : ℕ) → IsSearch reads start met parents seen
+pub no-way-back : (reads : List (List ℕ)) (start : ℕ) (met parents : List ℕ) (seen : List Bool) (at : ℕ)
+    → IsSearch reads start met parents seen
     → AreRead reads start met at → length met ≤ at → Leads reads start start → ⊥
 no-way-back reads start met parents seen at is read all w =
     let end = stays reads (λ (q : ℕ). (q ≡ start → ⊥) × ((r : ℕ) × (slice_get met r ≡ Some q))) start start
@@ -215,7 +230,8 @@ module _ (reads : List (List ℕ)) (start : ℕ) (met parents : List ℕ) (seen 
         none = λ e. let short = ap length e in let long = length-append items (k ∷ []) in absurd (omega (arith, short, long));
         last = longer-last;
         next = longer-next;
-        read = λ x q a b. subst (λ (i : ℕ). ReadsItem reads x i) (longer-end q b) (subst (λ (i : ℕ). ReadsItem reads i k) (one-at met r w.0 x w.2 a) w.3);
+        read = λ x q a b. subst (λ (i : ℕ). ReadsItem reads x i) (longer-end q b)
+            (subst (λ (i : ℕ). ReadsItem reads i k) (one-at met r w.0 x w.2 a) w.3);
         later = λ x p h. elim (of-push items k p x h) [
           | inl o ↦ let l = back.later x p o in (l.0, omega (arith, l.1, w.1), l.2)
           | inr (e, same) ↦ (at, w.1, here ∙ ap Some same)
@@ -230,7 +246,8 @@ module _ (reads : List (List ℕ)) (start : ℕ) (met parents : List ℕ) (seen 
       let long = length-append items (k ∷ []) in
       let turned = length-reverse longer in
       let first = some-at (reverse longer) 0 (omega (arith, long, turned)) in
-      let first-is = longer-end first.0 (subst (λ (i : ℕ). slice_get longer i ≡ Some first.0) (omega arith) (of-reverse longer 0 first.0 first.1)) in (
+      let first-is = longer-end first.0 (subst (λ (i : ℕ). slice_get longer i ≡ Some first.0) (omega arith)
+      (of-reverse longer 0 first.0 first.1)) in (
         record {
           some = omega (arith, long, turned);
           next = λ x q p a b.
@@ -239,7 +256,8 @@ module _ (reads : List (List ℕ)) (start : ℕ) (met parents : List ℕ) (seen 
               (subst (λ (i : ℕ). slice_get longer i ≡ Some x) (omega (arith, inside, turned)) (of-reverse longer p x a));
           closes = λ x q a b.
               let f = one-at (reverse longer) 0 first.0 q first.1 b in
-              let x-last = longer-last x (subst (λ (i : ℕ). slice_get longer i ≡ Some x) (omega (arith, turned)) (of-reverse longer (length (reverse longer) - 1) x a)) in
+              let x-last = longer-last x (subst (λ (i : ℕ). slice_get longer i ≡ Some x) (omega (arith, turned))
+              (of-reverse longer (length (reverse longer) - 1) x a)) in
               subst (λ (i : ℕ). ReadsItem reads x i) (sym same ∙ first-is ∙ f) (ends x x-last);
           once = λ x p r a b.
               let inside = slice_get_within (reverse longer) p x a in
@@ -251,24 +269,28 @@ module _ (reads : List (List ℕ)) (start : ℕ) (met parents : List ℕ) (seen 
       )
 
 pub circle-back : (reads : List (List ℕ)) (start : ℕ) (met parents : List ℕ) (seen : List Bool) → IsSearch reads start met parents seen
-    → (end at k : ℕ) (items pushed turned result : List ℕ) → IsWayBack reads met end at items → at ≤ 0 → slice_get met 0 ≡ Some k → IsEnd reads start met end
+    → (end at k : ℕ) (items pushed turned result : List ℕ) → IsWayBack reads met end at items → at ≤ 0 → slice_get met 0 ≡ Some k
+    → IsEnd reads start met end
     → pushed ≡ items ++ k ∷ [] → turned ≡ reverse pushed → result ≡ turned → IsCircle reads result × (slice_get result 0 ≡ Some start)
 circle-back reads start met parents seen is end at k items pushed turned result back low here ends a b c =
     let zero-th : at ≡ 0 = omega (arith, low) in
     let there : slice_get met at ≡ Some k = subst (λ (i : ℕ). slice_get met i ≡ Some k) (sym zero-th) here in
     rw (c, b, a) (circle-of reads start met parents seen is end at items back k there zero-th ends)
 
-pub read-at : (reads : List (List ℕ)) (k i : ℕ) (items reads-of : List ℕ) → slice_get reads k ≡ Some reads-of → items ≡ reads-of → i < length items
+pub read-at : (reads : List (List ℕ)) (k i : ℕ) (items reads-of : List ℕ) → slice_get reads k ≡ Some reads-of → items ≡ reads-of
+    → i < length items
     → ReadsItem reads k (slice_index_or items i 0)
 read-at reads k i items reads-of is same inside =
     let here : slice_index_or reads k [] ≡ items = get_or_from_slice_get reads k reads-of [] is ∙ sym same in
-    subst (λ (l : List ℕ). Contains l (slice_index_or items i 0)) (sym here) (contained items i (slice_index_or items i 0) (slice_get-get_or items i 0 inside))
+    subst (λ (l : List ℕ). Contains l (slice_index_or items i 0)) (sym here)
+    (contained items i (slice_index_or items i 0) (slice_get-get_or items i 0 inside))
 
 abbrev nat_of : Bool → ℕ
 nat_of b = cond b 0 1
 
 -- one more read is met
-module _ (reads : List (List ℕ)) (start reader at : ℕ) (items : List ℕ) (done : ℕ) (old mid new : Search) (before : AreFollowed reads start items done old mid)
+module _ (reads : List (List ℕ)) (start reader at : ℕ) (items : List ℕ) (done : ℕ) (old mid new : Search)
+    (before : AreFollowed reads start items done old mid)
     (there : slice_get old.met at ≡ Some reader) (q : ℕ) (inside : done < length items) (q-is : q ≡ slice_index_or items done 0)
     (reads-it : ReadsItem reads reader q) (within : q < length reads) (other : q ≡ start → ⊥) where
   met-by : Searches reads start new → ((k p : ℕ) → slice_get mid.met p ≡ Some k → slice_get new.met p ≡ Some k)
@@ -291,14 +313,17 @@ module _ (reads : List (List ℕ)) (start reader at : ℕ) (items : List ℕ) (d
       let m = before.search.seen_met q seen in
       met-by (rw (a, b, c) before.search) (λ k p h. rw a h) (rw (a, c) refl) m.0 (rw a m.1)
   followed-more (inr (unmet, a, b, c)) =
-      let now = one-more-met reads start mid.met mid.parents mid.seen before.search reader q at reads-it (before.kept reader at there) within unmet in
+      let now = one-more-met reads start mid.met mid.parents mid.seen before.search reader q at reads-it (before.kept reader at there)
+      within unmet in
       let sums = sum_by-set nat_of mid.seen q true false (slice_get_within mid.seen q false unmet) in
       let was : nat_of (slice_index_or mid.seen q false) ≡ nat_of false = ap nat_of (get_or_from_slice_get mid.seen q false false unmet) in
       let long = length-append mid.met (q ∷ []) in
-      met-by (rw (a, b, c) now) (λ k p h. rw a (on-left mid.met (q ∷ []) p k h)) (rw (a, c) (omega (arith, sums, was, long))) (length mid.met) (rw a (at-end mid.met q))
+      met-by (rw (a, b, c) now) (λ k p h. rw a (on-left mid.met (q ∷ []) p k h)) (rw (a, c) (omega (arith, sums, was, long)))
+      (length mid.met) (rw a (at-end mid.met q))
 
 -- all reads of the item at this place were met
-pub all-followed : (reads : List (List ℕ)) (start reader at : ℕ) (items reads-of : List ℕ) (done : ℕ) (old new : Search) → AreFollowed reads start items done old new
+pub all-followed : (reads : List (List ℕ)) (start reader at : ℕ) (items reads-of : List ℕ) (done : ℕ) (old new : Search)
+    → AreFollowed reads start items done old new
     → slice_get old.met at ≡ Some reader → slice_get reads reader ≡ Some reads-of → items ≡ reads-of → length items ≤ done
     → AreRead reads start old.met at → AreRead reads start new.met (at + 1)
 all-followed reads start reader at items reads-of done old new now there is same all before k q p less here r =
@@ -308,7 +333,8 @@ all-followed reads start reader at items reads-of done old new now there is same
     elim (cases_eq p at) [
       | inl e ↦
           let reader-is : reader ≡ k = one-at old.met at reader j.0 there (subst (λ (i : ℕ). slice_get old.met i ≡ Some j.0) e j.1) ∙ who in
-          let list-is : slice_index_or reads k [] ≡ items = ap (λ (i : ℕ). slice_index_or reads i []) (sym reader-is) ∙ get_or_from_slice_get reads reader reads-of [] is ∙ sym same in
+          let list-is : slice_index_or reads k [] ≡ items = ap (λ (i : ℕ). slice_index_or reads i []) (sym reader-is)
+          ∙ get_or_from_slice_get reads reader reads-of [] is ∙ sym same in
           let s = place-of items q (subst (λ (l : List ℕ). Contains l q) list-is r) in
           let within = slice_get_within items s.0 q s.1 in
           now.met q s.0 (omega (arith, within, all)) s.1
@@ -317,6 +343,8 @@ all-followed reads start reader at items reads-of done old new now there is same
           (m.0, (m.1.0, now.kept q m.1.0 m.1.1))
     ]
 
-pub stays-inside : (reads : List (List ℕ)) (start : ℕ) (items : List ℕ) (done at : ℕ) (old new : Search) → AreFollowed reads start items done old new
+pub stays-inside : (reads : List (List ℕ)) (start : ℕ) (items : List ℕ) (done at : ℕ) (old new : Search)
+    → AreFollowed reads start items done old new
     → at < length old.met → at < length new.met
-stays-inside reads start items done at old new now inside = let k = some-at old.met at inside in slice_get_within new.met at k.0 (now.kept k.0 at k.1)
+stays-inside reads start items done at old new now inside = let k = some-at old.met at inside in
+    slice_get_within new.met at k.0 (now.kept k.0 at k.1)

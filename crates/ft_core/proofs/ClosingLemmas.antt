@@ -1,5 +1,6 @@
 -- The last component of the walk is finished.
-use Rattle.std.proofs.Common.{arith, ◌≡◌, ◌∙◌, sym, ap, subst, refl, ◌⊎◌, inl, inr, ℕ, ◌+◌, ◌-◌, ◌<◌, ◌≤◌, List, [], ◌∷◌, length, take, drop, slice_get, Option, Some, None}
+use Rattle.std.proofs.Common.{arith, ◌≡◌, ◌∙◌, sym, ap, subst, refl, ◌⊎◌, inl, inr, ℕ, ◌+◌, ◌-◌, ◌<◌, ◌≤◌, List, [], ◌∷◌, length, take}
+use Rattle.std.proofs.Common.{drop, slice_get, Option, Some, None}
 use Rattle.std.proofs.lemmas.Bool.{cases_eq, cases_lt}
 use Rattle.std.proofs.lemmas.Option.{slice_get_within, same_Some, none-some}
 use Rattle.std.proofs.lemmas.List.{length-take-le}
@@ -19,8 +20,10 @@ single-of [] k long is = absurd (none-at 0 k is)
 single-of (x ∷ []) k long is = ap (λ (y : ℕ). y ∷ []) (same_Some x k is)
 single-of (x ∷ (y ∷ items)) k long is = absurd (omega (arith, long))
 
-module _ (reads : List (List ℕ)) (stages : List Stage) (path : List ℕ) (components : List Component) (pending order : List ℕ) (least : Option ℕ)
-    (is : IsWalk reads stages path components pending order least None) (top : Component) (last : IsTop components top) (none : length pending ≤ top.pending)
+module _ (reads : List (List ℕ)) (stages : List Stage) (path : List ℕ) (components : List Component) (pending order : List ℕ)
+    (least : Option ℕ)
+    (is : IsWalk reads stages path components pending order least None) (top : Component) (last : IsTop components top)
+    (none : length pending ≤ top.pending)
     (new : List Stage) (after : List ℕ) (least-now : Option ℕ) (done : Finishes (drop top.first path) stages new order after)
     (small : IsLeastAfter reads (drop top.first path) least least-now) where
   abbrev tail : List ℕ
@@ -35,7 +38,8 @@ module _ (reads : List (List ℕ)) (stages : List Stage) (path : List ℕ) (comp
   in-or-out : (k : ℕ) (s : Option Stage) → slice_get stages k ≡ s → ((j : ℕ) × (slice_get tail j ≡ Some k)) ⊎ IsOut k
   in-or-out k None stage = inr (λ j at. let e = sym stage ∙ tail-open k j at in none-some (Open (top.first + j)) e)
   in-or-out k (Some New) stage = inr (λ j at. let e = same_Some New (Open (top.first + j)) (sym stage ∙ tail-open k j at) in absurd (cc))
-  in-or-out k (Some (Done p)) stage = inr (λ j at. let e = same_Some (Done p) (Open (top.first + j)) (sym stage ∙ tail-open k j at) in absurd (cc))
+  in-or-out k (Some (Done p)) stage = inr (λ j at. let e = same_Some (Done p) (Open (top.first + j)) (sym stage ∙ tail-open k j at) in
+      absurd (cc))
   in-or-out k (Some (Open p)) stage = elim (cases_lt p top.first) [
     | inl low ↦ inr (λ j at.
         let e = same_Some (Open p) (Open (top.first + j)) (sym stage ∙ tail-open k j at) in
@@ -56,7 +60,8 @@ module _ (reads : List (List ℕ)) (stages : List Stage) (path : List ℕ) (comp
   on-start : (k p : ℕ) → slice_get order p ≡ Some k → slice_get after p ≡ Some k
   on-start k p at = subst (λ (l : List ℕ). slice_get l p ≡ Some k) (sym done.added) (on-left order tail p k at)
 
-  of-after : (k p : ℕ) → slice_get after p ≡ Some k → (slice_get order p ≡ Some k) ⊎ ((j : ℕ) × (p ≡ length order + j) × (slice_get tail j ≡ Some k))
+  of-after : (k p : ℕ) → slice_get after p ≡ Some k → (slice_get order p ≡ Some k)
+      ⊎ ((j : ℕ) × (p ≡ length order + j) × (slice_get tail j ≡ Some k))
   of-after k p at = of-append order tail p k (subst (λ (l : List ℕ). slice_get l p ≡ Some k) done.added at)
 
   -- what an item of the component reads is finished, or in the component
@@ -73,8 +78,10 @@ module _ (reads : List (List ℕ)) (stages : List Stage) (path : List ℕ) (comp
   both-ways k x i j from to other =
       let up = leads-top reads stages path components pending order least None is top last in
       leads-on reads k x k
-      (up k x (top.first + i) (top.first + j) (of-drop top.first path i k from) (of-drop top.first path j x to) (λ e. other (omega (arith, e))) (omega arith))
-      (up x k (top.first + j) (top.first + i) (of-drop top.first path j x to) (of-drop top.first path i k from) (λ e. other (omega (arith, e))) (omega arith))
+      (up k x (top.first + i) (top.first + j) (of-drop top.first path i k from) (of-drop top.first path j x to)
+      (λ e. other (omega (arith, e))) (omega arith))
+      (up x k (top.first + j) (top.first + i) (of-drop top.first path j x to) (of-drop top.first path i k from)
+      (λ e. other (omega (arith, e))) (omega arith))
 
   circular : (k i : ℕ) → slice_get tail i ≡ Some k → (tail ≡ k ∷ [] → ReadsItem reads k k) → Leads reads k k
   circular k i at itself = elim (cases_eq (length tail) 1) [
@@ -136,7 +143,8 @@ module _ (reads : List (List ℕ)) (stages : List Stage) (path : List ℕ) (comp
         order_done = λ k p at. elim (of-after k p at) [
           | inl o ↦
               let stage = is.order_done k p o in
-              done.there k (λ j there. let e = same_Some (Done p) (Open (top.first + j)) (sym stage ∙ tail-open k j there) in absurd (cc)) ∙ stage
+              done.there k (λ j there. let e = same_Some (Done p) (Open (top.first + j)) (sym stage ∙ tail-open k j there) in absurd (cc))
+              ∙ stage
           | inr (j, e, there) ↦ done.here k j there ∙ ap (λ (n : ℕ). Some (Done n)) (sym e)
         ];
         closed = λ k q p at r. elim (of-after k p at) [
@@ -167,7 +175,8 @@ module _ (reads : List (List ℕ)) (stages : List Stage) (path : List ℕ) (comp
                       | inl c ↦ let under = slice_get_within order c.0 q c.1 in (c.0, omega (arith, under, e), on-start q c.0 c.1)
                       | inr c ↦
                           let that = of-single k q c.0 (subst (λ (l : List ℕ). slice_get l c.0 ≡ Some q) only.0 c.1) in
-                          absurd (only.1 (subst (λ (x : ℕ). ReadsItem reads x k) (sym this.1) (subst (λ (x : ℕ). ReadsItem reads j x) (sym that.1) reads-it)))
+                          absurd (only.1 (subst (λ (x : ℕ). ReadsItem reads x k) (sym this.1)
+                          (subst (λ (x : ℕ). ReadsItem reads j x) (sym that.1) reads-it)))
                     ]
               ]
         ];
@@ -213,20 +222,28 @@ module _ (reads : List (List ℕ)) (stages : List Stage) (path : List ℕ) (comp
               | inl low ↦ no-start c i (in-take (length components - 1) components i c low has) over high
               | inr end ↦
                   let within-it = slice_get_within components i c has in
-                  let same : c ≡ top = one-at components last.0 c top (subst (λ (j : ℕ). slice_get components j ≡ Some c) (omega (arith, end, within-it, last.1)) has) last.2 in
+                  let same : c ≡ top = one-at components last.0 c top (subst (λ (j : ℕ). slice_get components j ≡ Some c)
+                  (omega (arith, end, within-it, last.1)) has) last.2 in
                   let firsts = ap (λ (d : Component). d.first) same in
                   absurd (omega (arith, firsts, high, f.0))
             ]);
         reader = λ q e at.
             let r = is.reader q e at in
             let within-it = slice_get_within pending e q at in
-            let below = (r.4 top last.0 last.2).1 (omega (arith, within-it, none)) in
-            (r.0, r.1, in-take top.first path r.1 r.0 below r.2, r.3, λ c i has. r.4 c i (of-take (length components - 1) components i c has).1);
+            let below = (r.4 top last.0 last.2).1 (omega (arith, within-it, none)) in (
+              r.0,
+              r.1,
+              in-take top.first path r.1 r.0 below r.2,
+              r.3,
+              λ c i has. r.4 c i
+                  (of-take (length components - 1) components i c has).1,
+            );
         taker = λ q wrong. absurd (none-some q wrong);
       }
 
 -- what is needed to finish the items of the last component
-module _ (reads : List (List ℕ)) (stages : List Stage) (path : List ℕ) (components : List Component) (pending order : List ℕ) (least : Option ℕ)
+module _ (reads : List (List ℕ)) (stages : List Stage) (path : List ℕ) (components : List Component) (pending order : List ℕ)
+    (least : Option ℕ)
     (is : IsWalk reads stages path components pending order least None) (first : ℕ) (items : List ℕ) (rest : items ≡ drop first path) where
   pub items-staged : (k p : ℕ) → slice_get items p ≡ Some k → k < length stages
   items-staged k p at =
@@ -245,16 +262,20 @@ module _ (reads : List (List ℕ)) (stages : List Stage) (path : List ℕ) (comp
       omega (arith, same)
 
 -- the last component is finished: what is known stays, no item becomes new, and less is left
-pub closes : (reads : List (List ℕ)) (stages : List Stage) (path : List ℕ) (components : List Component) (pending order : List ℕ) (least : Option ℕ)
+pub closes : (reads : List (List ℕ)) (stages : List Stage) (path : List ℕ) (components : List Component) (pending order : List ℕ)
+    (least : Option ℕ)
     → IsWalk reads stages path components pending order least None → (top : Component) → IsTop components top → length pending ≤ top.pending
     → (new : List Stage) (after : List ℕ) (least-now : Option ℕ) (items path-now : List ℕ) (components-now : List Component) (count : ℕ)
     → items ≡ drop top.first path → Finishes items stages new order after → IsLeastAfter reads items least least-now
     → path-now ≡ take top.first path → count ≡ length components → components-now ≡ take (count - 1) components
-    → IsWalk reads new path-now components-now pending after least-now None × ((k : ℕ) → IsNew new k → IsNew stages k) × (work reads new ≤ work reads stages)
+    → IsWalk reads new path-now components-now pending after least-now None × ((k : ℕ) → IsNew new k → IsNew stages k)
+    × (work reads new ≤ work reads stages)
     × (length components-now < length components)
-closes reads stages path components pending order least is top last none new after least-now items path-now components-now count a done small b e d =
+closes reads stages path components pending order least is top last none new after least-now items path-now components-now count a done
+    small b e d =
     let f : Finishes (drop top.first path) stages new order after = subst (λ (l : List ℕ). Finishes l stages new order after) a done in
-    let g : IsLeastAfter reads (drop top.first path) least least-now = subst (λ (l : List ℕ). IsLeastAfter reads l least least-now) a small in
+    let g : IsLeastAfter reads (drop top.first path) least least-now =
+    subst (λ (l : List ℕ). IsLeastAfter reads l least least-now) a small in
     let h : components-now ≡ take (length components - 1) components = d ∙ ap (λ (n : ℕ). take (n - 1) components) e in
     let short = ap length h ∙ length-take-le (length components - 1) components (omega arith) in (
       rw (b, h) (closed reads stages path components pending order least is top last none new after least-now f g),

@@ -1,5 +1,6 @@
 -- What the definitions of an order and of a circle say together.
-use Rattle.std.proofs.Common.{arith, ◌≡◌, sym, ap, refl, inl, inr, ℕ, zero, suc, ◌<◌, ◌≤◌, true, false, cond, eqb, List, [], ◌∷◌, length, slice_get, Some}
+use Rattle.std.proofs.Common.{arith, ◌≡◌, sym, ap, refl, inl, inr, ℕ, zero, suc, ◌<◌, ◌≤◌, true, false, cond, eqb, List, [], ◌∷◌, length}
+use Rattle.std.proofs.Common.{slice_get, Some}
 use Rattle.std.proofs.lemmas.Bool.{eq-eqb, ne_eqb, eqb-true, cases_Bool}
 use Rattle.std.proofs.lemmas.Option.{slice_get_within, same_Some}
 use Rattle.std.specs.List.{IsDistinct, AllByRecursion, list_any}
@@ -17,7 +18,8 @@ falls-along reads rank has k q (more {m} w r) =
     omega (arith, far, near)
 
 pub excludes : RankExcludesCircles
-excludes reads rank has items circle = let way = first-back reads items circle in let less = falls-along reads rank has way.0 way.0 way.1 in absurd (omega (arith, less))
+excludes reads rank has items circle = let way = first-back reads items circle in let less = falls-along reads rank has way.0 way.0 way.1 in
+    absurd (omega (arith, less))
 
 -- the first place of an item
 abbrev place : List ℕ → ℕ → ℕ
@@ -42,8 +44,10 @@ others x (y ∷ xs) none = (ne_eqb x y (λ e. none 0 (ap Some (sym e))), others 
 distinct : (xs : List ℕ) → StandsOnce xs → IsDistinct eqb xs
 unfolding IsDistinct
 distinct [] once = tt
-distinct (x ∷ xs) once =
-    (others x xs (λ p is. let e = once x 0 (suc p) refl is in absurd (omega (arith, e))), distinct xs (λ k p r a b. let e = once k (suc p) (suc r) a b in omega (arith, e)))
+distinct (x ∷ xs) once = (
+  others x xs (λ p is. let e = once x 0 (suc p) refl is in absurd (omega (arith, e))),
+  distinct xs (λ k p r a b. let e = once k (suc p) (suc r) a b in omega (arith, e)),
+)
 
 stands : (q : ℕ) (xs : List ℕ) → list_any (eqb q) xs ≡ true → (p : ℕ) × (slice_get xs p ≡ Some q)
 stands q [] is = absurd (cc)
@@ -54,7 +58,8 @@ stands q (x ∷ xs) is = elim (cases_Bool (eqb q x)) [
 
 -- an order has no more items than there are
 short : (reads : List (List ℕ)) (order : List ℕ) → IsOrder reads order → length order ≤ length reads
-short reads order is = length-le_from_distinct_below order (length reads) (distinct order is.once) (λ q has. let h = stands q order has in is.items q h.0 h.1)
+short reads order is = length-le_from_distinct_below order (length reads) (distinct order is.once)
+    (λ q has. let h = stands q order has in is.items q h.0 h.1)
 
 pub gives-rank : OrderGivesRank
 gives-rank reads order is = (

@@ -1,5 +1,6 @@
 -- What stands at a place of a list that is made of others.
-use Rattle.std.proofs.Common.{arith, ◌≡◌, ◌∙◌, sym, ap, subst, refl, ◌⊎◌, inl, inr, ℕ, zero, suc, ◌+◌, ◌-◌, ◌<◌, ◌≤◌, List, [], ◌∷◌, ◌++◌, length, take, drop, slice_get, slice_set, Some, Contains, replicate, reverse}
+use Rattle.std.proofs.Common.{arith, ◌≡◌, ◌∙◌, sym, ap, subst, refl, ◌⊎◌, inl, inr, ℕ, zero, suc, ◌+◌, ◌-◌, ◌<◌, ◌≤◌, List, [], ◌∷◌, ◌++◌}
+use Rattle.std.proofs.Common.{length, take, drop, slice_get, slice_set, Some, Contains, replicate, reverse}
 use Rattle.std.proofs.lemmas.Option.{same_Some, none-some, slice_get_within, slice_get-get_or, get_or_from_slice_get}
 use Rattle.std.proofs.lemmas.List.{get_or-reverse, length-reverse}
 use Rattle.ft_core.specs.laws.Places.{none-at}
@@ -15,7 +16,8 @@ of-append [] ys i x is = inr (i, omega arith, is)
 of-append (a ∷ xs) ys zero x is = inl is
 of-append (a ∷ xs) ys (suc i) x is = elim (of-append xs ys i x is) [ inl h ↦ inl h | inr (j, e, h) ↦ inr (j, omega arith, h) ]
 
-on-right-at : {X : Type 0} (xs ys : List X) (i j : ℕ) (x : X) → i ≡ length xs + j → slice_get ys j ≡ Some x → slice_get (xs ++ ys) i ≡ Some x
+on-right-at : {X : Type 0} (xs ys : List X) (i j : ℕ) (x : X) → i ≡ length xs + j → slice_get ys j ≡ Some x → slice_get (xs ++ ys) i
+    ≡ Some x
 on-right-at [] ys i j x e is = let same : i ≡ j = omega arith in subst (λ (k : ℕ). slice_get ys k ≡ Some x) (sym same) is
 on-right-at (a ∷ xs) ys zero j x e is = absurd (omega arith)
 on-right-at (a ∷ xs) ys (suc i) j x e is = on-right-at xs ys i j x (omega arith) is
@@ -45,7 +47,8 @@ pub of-drop : {X : Type 0} (n : ℕ) (xs : List X) (i : ℕ) (x : X) → slice_g
 of-drop n xs i x is = of-drop-at n xs i (n + i) x refl is
 
 -- a place from which a list is dropped stands in the rest
-pub in-drop : {X : Type 0} (n : ℕ) (xs : List X) (j : ℕ) (x : X) → n ≤ j → slice_get xs j ≡ Some x → (i : ℕ) × (j ≡ n + i) × (slice_get (drop n xs) i ≡ Some x)
+pub in-drop : {X : Type 0} (n : ℕ) (xs : List X) (j : ℕ) (x : X) → n ≤ j → slice_get xs j ≡ Some x → (i : ℕ) × (j ≡ n + i)
+    × (slice_get (drop n xs) i ≡ Some x)
 in-drop zero xs j x least is = (j, omega arith, is)
 in-drop (suc n) [] j x least is = absurd (none-at j x is)
 in-drop (suc n) (a ∷ xs) zero x least is = absurd (omega arith)
@@ -57,4 +60,5 @@ of-reverse xs k x is =
     let within = slice_get_within (reverse xs) k x is in
     let long = length-reverse xs in
     let inside : k < length xs = omega (arith, within, long) in
-    slice_get-get_or xs (length xs - 1 - k) x (omega (arith, inside)) ∙ ap Some (sym (get_or-reverse xs k x inside) ∙ get_or_from_slice_get (reverse xs) k x x is)
+    slice_get-get_or xs (length xs - 1 - k) x (omega (arith, inside)) ∙ ap Some
+    (sym (get_or-reverse xs k x inside) ∙ get_or_from_slice_get (reverse xs) k x x is)

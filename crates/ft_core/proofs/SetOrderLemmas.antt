@@ -1,5 +1,6 @@
 -- From an order of what the items of a set read comes the order that a checked set has.
-use Rattle.std.proofs.Common.{arith, ◌≡◌, ◌∙◌, sym, ap, subst, refl, inl, inr, ⊎_elim, ℕ, zero, suc, ◌+◌, ◌<◌, ◌≤◌, Bool, true, false, ◌||◌, IsTrue, true≢false, List, [], ◌∷◌, ◌++◌, length, slice_get, Option, Some, None, Contains, if◌then◌else◌}
+use Rattle.std.proofs.Common.{arith, ◌≡◌, ◌∙◌, sym, ap, subst, refl, inl, inr, ⊎_elim, ℕ, zero, suc, ◌+◌, ◌<◌, ◌≤◌, Bool, true, false, ◌||◌}
+use Rattle.std.proofs.Common.{IsTrue, true≢false, List, [], ◌∷◌, ◌++◌, length, slice_get, Option, Some, None, Contains, if◌then◌else◌}
 use Rattle.std.specs.Prelude.{slice_index_or, nat_lt, ◌==◌}
 use Rattle.std.specs.List.{flat_map, list_any, zip}
 use Rattle.std.proofs.lemmas.Bool.{cases_Bool, ltb-true, ltb-false, or_left, or_right}
@@ -21,7 +22,8 @@ use Rattle.ft_core.specs.meaning.Grids.{defines, is_for, is_section, cells_for}
 use Rattle.ft_core.specs.meaning.Items.{AreReads, IsNumbering, OrderGivesSetOrder, ReadsWhatIsThere, item, item_read}
 use Rattle.ft_core.specs.meaning.Kinds.{Kinds, defined_kinds, is_of, side_kinds}
 use Rattle.ft_core.specs.meaning.Order.{HasRank, IsOrder, ReadsItem}
-use Rattle.ft_core.specs.meaning.Reads.{Read, at_now, at_before, of_memory, of_age, cond_reads, term_reads, grid_reads, memory_reads, cell_reads}
+use Rattle.ft_core.specs.meaning.Reads.{Read, at_now, at_before, of_memory, of_age, cond_reads, term_reads, grid_reads, memory_reads}
+use Rattle.ft_core.specs.meaning.Reads.{cell_reads}
 use Rattle.ft_core.specs.checked.Sound.{HasOrder, IsRank, is_current, is_memory_of, item_reads, may_read, on_side}
 use Rattle.ft_core.proofs.CellReads.{tables-out}
 use Rattle.ft_core.proofs.ItemLemmas.{read-below}
@@ -61,11 +63,16 @@ side-item : (vars : List Var) (memories : List Memory) (s : Side) (q : Read) →
     → (l : ℕ) × (item_read (length vars) (length memories) q ≡ Some l)
 side-item vars memories s (at_now x) may now = (x, variable-item (length vars) (length memories) x (is-there vars (side_kinds s) x may))
 side-item vars memories s (at_before x) may now = absurd (true≢false (sym now))
-side-item vars memories s (of_memory m) may now = (length vars + m, memory-item (length vars) (length memories) m (is-memory memories s m may))
+side-item vars memories s (of_memory m) may now = (
+  length vars + m,
+  memory-item (length vars) (length memories) m
+      (is-memory memories s m may),
+)
 side-item vars memories s (of_age m) may now = absurd (true≢false (sym may))
 
 -- what is read for a variable, the grid reads, and it defines the variable
-of-target : {X : Type 0} (target k : ℕ) (reads : List X) (q : X) → Contains (if_target target reads k) q → ((target == k) ≡ true) × Contains reads q
+of-target : {X : Type 0} (target k : ℕ) (reads : List X) (q : X) → Contains (if_target target reads k) q → ((target == k) ≡ true)
+    × Contains reads q
 of-target target k reads q c = by_test (target == k) refl c
   where
     by_test : (b : Bool) → (target == k) ≡ b → Contains (if b then reads else []) q → ((target == k) ≡ true) × Contains reads q
@@ -92,7 +99,8 @@ row-of k columns (t ∷ targets) (row ∷ terms) q c = ⊎_elim
           (Contains-append_right (flat_map term_reads row) (flat_map (flat_map term_reads) terms) q entry))
           (Contains-append_cases (flat_map cond_reads columns) (flat_map (flat_map term_reads) terms) q deeper.1),
     ))
-    (Contains-append_cases (if_target t (row_reads columns row) k) (flat_map (λ r. if_target r.0 (row_reads columns r.1) k) (zip targets terms)) q c)
+    (Contains-append_cases (if_target t (row_reads columns row) k) (flat_map (λ r. if_target r.0 (row_reads columns r.1) k)
+    (zip targets terms)) q c)
 
 of-grid : (k : ℕ) (g : Grid) (q : Read) → Contains (grid_reads_for k g) q → (defines g k ≡ true) × Contains (grid_reads g) q
 of-grid k (Normal target columns rows terms) q c = of-target target k _ q c
@@ -118,7 +126,8 @@ module _ (vars : List Var) (memories : List Memory) (tables : List Table) (there
   abbrev Both : Read → Read → Type 0
   Both r q = (k l : ℕ) × (item_read V M r ≡ Some k) × (item_read V M q ≡ Some l)
 
-  of-table : (x i : ℕ) (t : Table) (q : Read) → slice_get tables i ≡ Some t → Contains (table_reads_for x t) q → is_current q ≡ true → Both (at_now x) q
+  of-table : (x i : ℕ) (t : Table) (q : Read) → slice_get tables i ≡ Some t → Contains (table_reads_for x t) q → is_current q ≡ true
+      → Both (at_now x) q
   of-table x i t q e c now = by_side (is_of_side t.section) refl c
     where
       by_side : (b : Bool) → is_of_side t.section ≡ b → Contains (if b then grid_reads_for x t.grid else []) q → Both (at_now x) q
@@ -129,7 +138,8 @@ module _ (vars : List Var) (memories : List Memory) (tables : List Table) (there
           (x, l.0, variable-item V M x (is-there vars (defined_kinds t.section) x (there.targets i x t e g.0)), l.1)
       by_side false is c = absurd (omega (arith, c.1))
 
-  from-tables : (x : ℕ) (q : Read) (ts : List Table) → Contains (flat_map (table_reads_for x) ts) q → (i : ℕ) × (t : Table) × (slice_get ts i ≡ Some t) × Contains (table_reads_for x t) q
+  from-tables : (x : ℕ) (q : Read) (ts : List Table) → Contains (flat_map (table_reads_for x) ts) q → (i : ℕ) × (t : Table)
+      × (slice_get ts i ≡ Some t) × Contains (table_reads_for x t) q
   from-tables x q [] c = absurd (omega (arith, c.1))
   from-tables x q (t ∷ ts) c = ⊎_elim (λ here. (0, t, refl, here)) (λ later. let d = from-tables x q ts later in (suc d.0, d.1, d.2, d.3))
       (Contains-append_cases (table_reads_for x t) (flat_map (table_reads_for x) ts) q c)
@@ -149,7 +159,8 @@ module _ (vars : List Var) (memories : List Memory) (tables : List Table) (there
   both (at_before x) q c now = absurd (omega (arith, c.1))
   both (of_age m) q c now = absurd (omega (arith, c.1))
 
-  module _ (numbers : List ℕ) (reads : List (List ℕ)) (numbering : IsNumbering (V + M) numbers) (are : AreReads V memories tables numbers reads)
+  module _ (numbers : List ℕ) (reads : List (List ℕ)) (numbering : IsNumbering (V + M) numbers)
+      (are : AreReads V memories tables numbers reads)
       (rank : ℕ → ℕ) (ranked : HasRank reads rank) where
     -- the rank of an item's number, and 0 for what is none
     rank_of : Option ℕ → ℕ
@@ -172,7 +183,8 @@ module _ (vars : List Var) (memories : List Memory) (tables : List Table) (there
             let low = ranked.bounded (slice_index_or numbers k 0) (number-low k (read-below V M r k e).0) in
             let long = are.long in omega (arith, low, long)
 
-    falls : (r q : Read) → Contains (item_reads memories tables r) q → is_current q ≡ true → rank_of (item_read V M q) < rank_of (item_read V M r)
+    falls : (r q : Read) → Contains (item_reads memories tables r) q → is_current q ≡ true
+        → rank_of (item_read V M q) < rank_of (item_read V M r)
     unfolding rank_of
     falls r q c now =
         let b = both r q c now in

@@ -1,5 +1,6 @@
 -- How the walk's steps keep what is known of it.
-use Rattle.std.proofs.Common.{arith, ◌≡◌, ◌∙◌, sym, ap, subst, refl, ◌⊎◌, inl, inr, ℕ, zero, suc, ◌+◌, ◌-◌, ◌<◌, ◌≤◌, List, [], ◌∷◌, ◌++◌, length, take, slice_get, slice_set, slice_index_or, Option, Some, None, append_assoc}
+use Rattle.std.proofs.Common.{arith, ◌≡◌, ◌∙◌, sym, ap, subst, refl, ◌⊎◌, inl, inr, ℕ, zero, suc, ◌+◌, ◌-◌, ◌<◌, ◌≤◌, List, [], ◌∷◌, ◌++◌}
+use Rattle.std.proofs.Common.{length, take, slice_get, slice_set, slice_index_or, Option, Some, None, append_assoc}
 use Rattle.std.proofs.lemmas.Bool.{cases_eq, cases_lt}
 use Rattle.std.proofs.lemmas.Option.{slice_get_within, same_Some, none-some}
 use Rattle.std.proofs.lemmas.List.{length-set, length-append, length-take-le, take_more}
@@ -8,13 +9,15 @@ use Rattle.ft_core.specs.declared.walk.Stage.TheVariants.{New, Open, Done}
 use Rattle.ft_core.specs.declared.walk.Component.{Component}
 use Rattle.ft_core.specs.meaning.Order.{ReadsItem}
 use Rattle.ft_core.specs.walk.Circles.{Leads, one, more}
-use Rattle.ft_core.specs.walk.Walk.{IsIn, IsLone, finished, ahead, waiting, in_hand, IsWalk, IsNew, IsTop, Joins, IsLeast, Finishes, weight, work}
+use Rattle.ft_core.specs.walk.Walk.{IsIn, IsLone, finished, ahead, waiting, in_hand, IsWalk, IsNew, IsTop, Joins, IsLeast, Finishes, weight}
+use Rattle.ft_core.specs.walk.Walk.{work}
 use Rattle.ft_core.specs.laws.Places.{one-at, none-at, on-left, of-push, at-end, of-set, set-here, set-there, contained, place-of, some-at}
 use Rattle.ft_core.proofs.PlaceLemmas.{of-append, on-right, of-take, in-take}
 use Rattle.ft_core.proofs.CircleLemmas.{leads-on}
 
 -- one more component is dropped
-pub join-more : (at : ℕ) (old mid new : List Component) (c : Component) (n : ℕ) → Joins at old mid → IsTop mid c → at < c.first → n ≡ length mid
+pub join-more : (at : ℕ) (old mid new : List Component) (c : Component) (n : ℕ) → Joins at old mid → IsTop mid c → at < c.first → n
+    ≡ length mid
     → new ≡ take (n - 1) mid → Joins at old new
 join-more at old mid new c n before top above long is = rw is (
     let begins = before.begins in
@@ -43,8 +46,10 @@ join-more at old mid new c n before top above long is = rw is (
     })
 
 -- one more item is taken into account
-pub least-more : (least mid new : Option ℕ) (items : List ℕ) (done item : ℕ) → IsLeast least mid items done → slice_get items done ≡ Some item
-    → ((k : ℕ) → new ≡ Some k → (mid ≡ Some k) ⊎ (item ≡ k)) → ((k : ℕ) → IsLone new k → IsLone mid k × (k < item)) → IsLeast least new items (done + 1)
+pub least-more : (least mid new : Option ℕ) (items : List ℕ) (done item : ℕ) → IsLeast least mid items done → slice_get items done
+    ≡ Some item
+    → ((k : ℕ) → new ≡ Some k → (mid ≡ Some k) ⊎ (item ≡ k)) → ((k : ℕ) → IsLone new k → IsLone mid k × (k < item))
+    → IsLeast least new items (done + 1)
 least-more least mid new items done item before here from below = record {
   from = λ k is. elim (from k is) [ inl o ↦ before.from k o | inr same ↦ inr (done, here ∙ ap Some same) ];
   below = λ k lone. before.below k (below k lone).0;
@@ -67,7 +72,8 @@ finish-one items stages mid order after item before fresh within = record {
   here = λ k p is. elim (of-push items item p k is) [
     | inl o ↦ set-there mid item (Done (length after)) k (λ e. fresh p (o ∙ ap Some e)) ∙ before.here k p o
     | inr (e, same) ↦
-        let count : length after ≡ length order + p = ap length before.added ∙ length-append order items ∙ ap (λ (n : ℕ). length order + n) (sym e) in
+        let count : length after ≡ length order + p = ap length before.added ∙ length-append order items
+        ∙ ap (λ (n : ℕ). length order + n) (sym e) in
         let long = before.long in
         subst (λ (i : ℕ). slice_get (slice_set mid item (Done (length after))) i ≡ Some (Done (length order + p))) same
         (set-here mid item (Done (length after)) (omega (arith, long, within)) ∙ ap (λ (n : ℕ). Some (Done n)) count)
@@ -77,16 +83,21 @@ finish-one items stages mid order after item before fresh within = record {
       ∙ before.there k (λ p is. none p (on-left items (item ∷ []) p k is));
 }
 
-pub finish-more : (items : List ℕ) (done : ℕ) (stages mid new : List Stage) (order after last : List ℕ) (item : ℕ) → Finishes (take done items) stages mid order after
-    → item ≡ slice_index_or items done 0 → done < length items → ((k p r : ℕ) → slice_get items p ≡ Some k → slice_get items r ≡ Some k → p ≡ r) → slice_get items done ≡ Some item
-    → item < length stages → new ≡ slice_set mid item (Done (length after)) → last ≡ after ++ item ∷ [] → Finishes (take (done + 1) items) stages new order last
+pub finish-more : (items : List ℕ) (done : ℕ) (stages mid new : List Stage) (order after last : List ℕ) (item : ℕ)
+    → Finishes (take done items) stages mid order after
+    → item ≡ slice_index_or items done 0 → done < length items → ((k p r : ℕ) → slice_get items p ≡ Some k → slice_get items r ≡ Some k → p
+    ≡ r) → slice_get items done ≡ Some item
+    → item < length stages → new ≡ slice_set mid item (Done (length after)) → last ≡ after ++ item ∷ []
+    → Finishes (take (done + 1) items) stages new order last
 finish-more items done stages mid new order after last item before item-is inside once here within a b =
-    let longer : take (done + 1) items ≡ take done items ++ item ∷ [] = take_more items done 0 inside ∙ ap (λ (i : ℕ). take done items ++ i ∷ []) (sym item-is) in
+    let longer : take (done + 1) items ≡ take done items ++ item ∷ [] = take_more items done 0 inside
+    ∙ ap (λ (i : ℕ). take done items ++ i ∷ []) (sym item-is) in
     rw (a, b, longer) (finish-one (take done items) stages mid order after item before
     (λ p is. let h = of-take done items p item is in let e = once item p done h.1 here in absurd (omega (arith, h.0, e))) within)
 
 -- less is left where no more items are new
-pub work-le : (reads : List (List ℕ)) (old new : List Stage) → length new ≡ length old → ((k : ℕ) → IsNew new k → IsNew old k) → work reads new ≤ work reads old
+pub work-le : (reads : List (List ℕ)) (old new : List Stage) → length new ≡ length old → ((k : ℕ) → IsNew new k → IsNew old k)
+    → work reads new ≤ work reads old
 work-le [] old new long h = omega arith
 work-le (r ∷ reads) [] [] long h = omega arith
 work-le (r ∷ reads) [] (y ∷ new) long h = absurd (omega (arith, long))
@@ -95,21 +106,27 @@ work-le (r ∷ reads) (x ∷ old) (New ∷ new) long h =
     let rest = work-le reads old new (omega (arith, long)) (λ k n. h (suc k) n) in
     let same : weight r x ≡ weight r New = ap (weight r) (same_Some x New (h 0 refl)) in
     omega (arith, rest, same)
-work-le (r ∷ reads) (x ∷ old) (Open p ∷ new) long h = let rest = work-le reads old new (omega (arith, long)) (λ k n. h (suc k) n) in omega (arith, rest)
-work-le (r ∷ reads) (x ∷ old) (Done p ∷ new) long h = let rest = work-le reads old new (omega (arith, long)) (λ k n. h (suc k) n) in omega (arith, rest)
+work-le (r ∷ reads) (x ∷ old) (Open p ∷ new) long h = let rest = work-le reads old new (omega (arith, long)) (λ k n. h (suc k) n) in
+    omega (arith, rest)
+work-le (r ∷ reads) (x ∷ old) (Done p ∷ new) long h = let rest = work-le reads old new (omega (arith, long)) (λ k n. h (suc k) n) in
+    omega (arith, rest)
 
 -- an item that is put on the path takes itself and its reads from what is left
 pub work-open : (reads : List (List ℕ)) (stages : List Stage) (q p : ℕ) → q < length reads → IsNew stages q
     → work reads (slice_set stages q (Open p)) + suc (length (slice_index_or reads q [])) ≡ work reads stages
 work-open [] stages q p item new = absurd (omega (arith, item))
 work-open (r ∷ reads) [] q p item new = absurd (none-at q New new)
-work-open (r ∷ reads) (x ∷ stages) zero p item new = let same : weight r x ≡ weight r New = ap (weight r) (same_Some x New new) in omega (arith, same)
-work-open (r ∷ reads) (x ∷ stages) (suc q) p item new = let rest = work-open reads stages q p (omega (arith, item)) new in omega (arith, rest)
+work-open (r ∷ reads) (x ∷ stages) zero p item new = let same : weight r x ≡ weight r New = ap (weight r) (same_Some x New new) in
+    omega (arith, same)
+work-open (r ∷ reads) (x ∷ stages) (suc q) p item new = let rest = work-open reads stages q p (omega (arith, item)) new in
+    omega (arith, rest)
 
-module _ (reads : List (List ℕ)) (stages : List Stage) (path : List ℕ) (components : List Component) (pending order : List ℕ) (least taken : Option ℕ)
+module _ (reads : List (List ℕ)) (stages : List Stage) (path : List ℕ) (components : List Component) (pending order : List ℕ)
+    (least taken : Option ℕ)
     (is : IsWalk reads stages path components pending order least taken) where
   -- no component begins after the last one
-  pub below-top : (top c : Component) (i : ℕ) → IsTop components top → slice_get components i ≡ Some c → (c.first ≤ top.first) × (c.pending ≤ top.pending)
+  pub below-top : (top c : Component) (i : ℕ) → IsTop components top → slice_get components i ≡ Some c → (c.first ≤ top.first)
+      × (c.pending ≤ top.pending)
   below-top top c i last here = elim (cases_eq i last.0) [
     | inl e ↦
         let same : c ≡ top = one-at components last.0 c top (subst (λ (j : ℕ). slice_get components j ≡ Some c) e here) last.2 in
@@ -123,12 +140,15 @@ module _ (reads : List (List ℕ)) (stages : List Stage) (path : List ℕ) (comp
   ]
 
   -- items at or after the beginning of the last component lead to each other
-  pub leads-top : (top : Component) → IsTop components top → (k q a b : ℕ) → slice_get path a ≡ Some k → slice_get path b ≡ Some q → (a ≡ b → ⊥)
+  pub leads-top : (top : Component) → IsTop components top → (k q a b : ℕ) → slice_get path a ≡ Some k → slice_get path b ≡ Some q
+      → (a ≡ b → ⊥)
       → top.first ≤ b → Leads reads k q
-  leads-top top last k q a b from to other high = is.linked k q a b from to other (λ c i h low up. let r = below-top top c i last h in omega (arith, r.0, low, high))
+  leads-top top last k q a b from to other high = is.linked k q a b from to other
+      (λ c i h low up. let r = below-top top c i last h in omega (arith, r.0, low, high))
 
   -- a read to an item that is finished, or on the path in a component that isn't before the last, was followed
-  pub filled : (q : ℕ) → taken ≡ Some q → (IsIn order q) ⊎ ((at : ℕ) × (slice_get path at ≡ Some q) × ((c : Component) (i : ℕ) → slice_get components i ≡ Some c → c.first ≤ at))
+  pub filled : (q : ℕ) → taken ≡ Some q → (IsIn order q) ⊎ ((at : ℕ) × (slice_get path at ≡ Some q)
+      × ((c : Component) (i : ℕ) → slice_get components i ≡ Some c → c.first ≤ at))
       → IsWalk reads stages path components pending order least None
   filled q hand where-it = record {
     long = is.long;
@@ -173,7 +193,8 @@ module _ (reads : List (List ℕ)) (stages : List Stage) (path : List ℕ) (comp
             let firsts = ap (λ (d : Component). d.first) same in
             omega (arith, firsts, under)
         | inr other ↦
-            let r = is.rises c last.0 i (length new - 1) (omega (arith, inside, other)) (joins.same c i has) (joins.same last.0 (length new - 1) last.1) in
+            let r = is.rises c last.0 i (length new - 1) (omega (arith, inside, other)) (joins.same c i has)
+            (joins.same last.0 (length new - 1) last.1) in
             omega (arith, r.0, under)
       ]
       in record {
@@ -195,9 +216,11 @@ module _ (reads : List (List ℕ)) (stages : List Stage) (path : List ℕ) (comp
           | in_hand same ↦ ahead at (low c i has) (here ∙ ap Some (same_Some q x (sym hand ∙ same)))
         ];
         linked = λ k x a b from to other none. elim (cases_lt at a) [
-          | inr under ↦ is.linked k x a b from to other (λ c i has over high. none c i (joins.kept c i has (omega (arith, high, under))) over high)
+          | inr under ↦ is.linked k x a b from to other (λ c i has over high. none c i (joins.kept c i has (omega (arith, high, under)))
+              over high)
           | inl above ↦
-              let to-reader : (a ≡ t.1 → ⊥) → Leads reads k t.0 = λ apart. is.linked k t.0 a t.1 from t.2 apart (λ c i has over high. let f = t.4 c i has in omega (arith, f, over)) in
+              let to-reader : (a ≡ t.1 → ⊥) → Leads reads k t.0 = λ apart. is.linked k t.0 a t.1 from t.2 apart
+              (λ c i has over high. let f = t.4 c i has in omega (arith, f, over)) in
               let to-q : Leads reads k q = elim (cases_eq a t.1) [
                 | inl e ↦
                     let same : t.0 ≡ k = one-at path a t.0 k (subst (λ (j : ℕ). slice_get path j ≡ Some t.0) (sym e) t.2) from in
@@ -205,9 +228,11 @@ module _ (reads : List (List ℕ)) (stages : List Stage) (path : List ℕ) (comp
                 | inr apart ↦ more (to-reader apart) t.3
               ] in
               elim (cases_eq at b) [
-                | inl e ↦ subst (λ (j : ℕ). Leads reads k j) (one-at path b q x (subst (λ (j : ℕ). slice_get path j ≡ Some q) e here) to) to-q
+                | inl e ↦ subst (λ (j : ℕ). Leads reads k j) (one-at path b q x (subst (λ (j : ℕ). slice_get path j ≡ Some q) e here) to)
+                    to-q
                 | inr apart ↦ leads-on reads k q x to-q (
-                    is.linked q x at b here to apart (λ c i has over high. none c i (joins.kept c i has high) over (omega (arith, high, above))))
+                    is.linked q x at b here to apart (λ c i has over high. none c i (joins.kept c i has high) over
+                    (omega (arith, high, above))))
               ]
         ];
         reader = λ x e at-e. let r = is.reader x e at-e in (r.0, r.1, r.2, r.3, λ c i has. r.4 c i (joins.same c i has));
@@ -215,7 +240,8 @@ module _ (reads : List (List ℕ)) (stages : List Stage) (path : List ℕ) (comp
       }
 
   -- a new item that all items of the path lead to is put on the path, as a component of its own, and its reads wait
-  module _ (q : ℕ) (new : IsNew stages q) (leads : (k p : ℕ) → slice_get path p ≡ Some k → Leads reads k q) (hand : (x : ℕ) → taken ≡ Some x → x ≡ q) where
+  module _ (q : ℕ) (new : IsNew stages q) (leads : (k p : ℕ) → slice_get path p ≡ Some k → Leads reads k q)
+      (hand : (x : ℕ) → taken ≡ Some x → x ≡ q) where
     abbrev opened-stages : List Stage
     opened-stages = slice_set stages q (Open (length path))
 
@@ -223,12 +249,15 @@ module _ (reads : List (List ℕ)) (stages : List Stage) (path : List ℕ) (comp
     single = record { first = length path; pending = length pending }
 
     not-open : (p k : ℕ) → slice_get path p ≡ Some k → k ≡ q → ⊥
-    not-open p k at same = let wrong = same_Some New (Open p) (sym new ∙ subst (λ (i : ℕ). slice_get stages i ≡ Some (Open p)) same (is.path_open k p at)) in absurd (cc)
+    not-open p k at same = let wrong = same_Some New (Open p) (sym new
+        ∙ subst (λ (i : ℕ). slice_get stages i ≡ Some (Open p)) same (is.path_open k p at)) in absurd (cc)
 
     not-done : (p k : ℕ) → slice_get order p ≡ Some k → k ≡ q → ⊥
-    not-done p k at same = let wrong = same_Some New (Done p) (sym new ∙ subst (λ (i : ℕ). slice_get stages i ≡ Some (Done p)) same (is.order_done k p at)) in absurd (cc)
+    not-done p k at same = let wrong = same_Some New (Done p) (sym new
+        ∙ subst (λ (i : ℕ). slice_get stages i ≡ Some (Done p)) same (is.order_done k p at)) in absurd (cc)
 
-    pub opened : IsWalk reads (slice_set stages q (Open (length path))) (path ++ q ∷ []) (components ++ record { first = length path; pending = length pending } ∷ [])
+    pub opened : IsWalk reads (slice_set stages q (Open (length path))) (path ++ q ∷ [])
+        (components ++ record { first = length path; pending = length pending } ∷ [])
         (pending ++ slice_index_or reads q []) order least None
     opened =
         let more-path = length-append path (q ∷ []) in
@@ -244,7 +273,8 @@ module _ (reads : List (List ℕ)) (stages : List Stage) (path : List ℕ) (comp
           path_open = λ k p at. elim (of-push path q p k at) [
             | inl o ↦ set-there stages q (Open (length path)) k (not-open p k o) ∙ is.path_open k p o
             | inr (e, same) ↦
-                subst (λ (i : ℕ). slice_get opened-stages i ≡ Some (Open p)) same (set-here stages q (Open (length path)) (slice_get_within stages q New new) ∙ ap (λ (n : ℕ). Some (Open n)) (sym e))
+                subst (λ (i : ℕ). slice_get opened-stages i ≡ Some (Open p)) same
+                (set-here stages q (Open (length path)) (slice_get_within stages q New new) ∙ ap (λ (n : ℕ). Some (Open n)) (sym e))
           ];
           done_order = λ k p at. elim (of-set stages q (Open (length path)) k (Done p) at) [
             | inl (e, same) ↦ absurd (cc)
@@ -307,7 +337,8 @@ module _ (reads : List (List ℕ)) (stages : List Stage) (path : List ℕ) (comp
                 | finished s there ↦ finished s there
                 | ahead s up there ↦ ahead s up (on-left path (q ∷ []) s x there)
                 | waiting e up there ↦ waiting e up (on-left pending (slice_index_or reads q []) e x there)
-                | in_hand this ↦ let w = is.within c i h in ahead (length path) (omega (arith, w.0)) (at-end path q ∙ ap Some (sym (hand x this)))
+                | in_hand this ↦ let w = is.within c i h in ahead (length path) (omega (arith, w.0))
+                    (at-end path q ∙ ap Some (sym (hand x this)))
               ]
             ]
           ];
@@ -358,9 +389,12 @@ module _ (reads : List (List ℕ)) (stages : List Stage) (path : List ℕ) (comp
         }
 
 -- the last read of the last component is taken off those that wait
-pub popped : (reads : List (List ℕ)) (stages : List Stage) (path : List ℕ) (components : List Component) (pending order : List ℕ) (least : Option ℕ)
-    → IsWalk reads stages path components pending order least None → (top : Component) (count q : ℕ) (rest : List ℕ) → IsTop components top → count ≡ length pending
-    → top.pending < count → slice_get pending (count - 1) ≡ Some q → rest ≡ take (count - 1) pending → IsWalk reads stages path components rest order least (Some q)
+pub popped : (reads : List (List ℕ)) (stages : List Stage) (path : List ℕ) (components : List Component) (pending order : List ℕ)
+    (least : Option ℕ)
+    → IsWalk reads stages path components pending order least None → (top : Component) (count q : ℕ) (rest : List ℕ) → IsTop components top
+    → count ≡ length pending
+    → top.pending < count → slice_get pending (count - 1) ≡ Some q → rest ≡ take (count - 1) pending
+    → IsWalk reads stages path components rest order least (Some q)
 popped reads stages path components pending order least is top count q rest last long waits here rest-is = rw rest-is (
     let short = length-take-le (count - 1) pending (omega (arith, long)) in
     record {

@@ -1,7 +1,8 @@
 //! What the variables and memories of a set read of each other within one scan.
 ghost use Rattle.std.specs.Prelude.{◌≡◌, ◌≤◌, ◌+◌, ◌++◌, [], ◌∷◌, length, map, replicate, IsTrue, IfOk, OnOk, Some};
 ghost use Rattle.std.specs.List.{flat_map, list_all, zip};
-ghost use Rattle.ft_core.specs.walk.Gathering.{Adds, AreVariableReads, Longer, grid_reads_for, if_target, inverted_reads, is_of_side, items_in, normal_reads, row_reads, table_reads_for};
+ghost use Rattle.ft_core.specs.walk.Gathering.{Adds, AreVariableReads, Longer, grid_reads_for, if_target, inverted_reads, is_of_side};
+ghost use Rattle.ft_core.specs.walk.Gathering.{items_in, normal_reads, row_reads, table_reads_for};
 ghost use Rattle.ft_core.specs.meaning.Grids.{is_shaped};
 ghost use Rattle.ft_core.specs.meaning.Items.{ArePlainReads, item_read};
 ghost use Rattle.ft_core.specs.meaning.Reads.{at_now, of_memory, cond_reads, memory_reads, term_reads};
@@ -182,7 +183,8 @@ fn gather_normal(
     rows: &[Cond],
     terms: &[List<Term>],
 ) -> Result<(), NoMemory>
-    ensures { OnOk result (Longer (if_target target (items_in counts.vars counts.memories (normal_reads columns.now rows.now terms.now))) lists.old.items lists.new.items) }
+    ensures { OnOk result (Longer (if_target target (items_in counts.vars counts.memories (normal_reads columns.now rows.now terms.now)))
+        lists.old.items lists.new.items) }
 {
     if (target as usize) < lists.len() {
         add_normal(&mut lists[target as usize], counts, columns, rows, terms)
@@ -200,7 +202,8 @@ fn gather_inverted(
     rows: &[Cond],
     grid: &[List<Cond>],
 ) -> Result<(), NoMemory>
-    ensures { OnOk result (Longer (if_target target (items_in counts.vars counts.memories (inverted_reads terms.now rows.now grid.now))) lists.old.items lists.new.items) }
+    ensures { OnOk result (Longer (if_target target (items_in counts.vars counts.memories (inverted_reads terms.now rows.now grid.now)))
+        lists.old.items lists.new.items) }
 {
     if (target as usize) < lists.len() {
         add_inverted(&mut lists[target as usize], counts, terms, rows, grid)
@@ -217,7 +220,8 @@ fn gather_row(
     columns: &[u32],
     terms: &[Term],
 ) -> Result<(), NoMemory>
-    ensures { OnOk result (Longer (if_target target (columns.now ++ items_in counts.vars counts.memories (flat_map term_reads terms.now))) lists.old.items lists.new.items) }
+    ensures { OnOk result (Longer (if_target target (columns.now ++ items_in counts.vars counts.memories (flat_map term_reads terms.now)))
+        lists.old.items lists.new.items) }
 {
     if (target as usize) < lists.len() {
         add_row(&mut lists[target as usize], counts, columns, terms)
@@ -234,7 +238,8 @@ fn gather_rows(
     targets: &[u32],
     terms: &[List<Term>],
 ) -> Result<(), NoMemory>
-    ensures { OnOk result (Longer (λ k. flat_map (λ r. if_target r.0 (columns.now ++ items_in counts.vars counts.memories (flat_map term_reads r.1)) k) (zip targets.now terms.now)) lists.old.items lists.new.items) }
+    ensures { OnOk result (Longer (λ k. flat_map (λ r. if_target r.0 (columns.now
+        ++ items_in counts.vars counts.memories (flat_map term_reads r.1)) k) (zip targets.now terms.now)) lists.old.items lists.new.items) }
 {
     for at in 0..targets.len().min(terms.len()) {
         gather_row(lists, counts, targets[at], columns, terms[at].as_slice())?;
@@ -367,7 +372,8 @@ fn add_memories(
     counts: Counts,
     memories: &[Memory],
 ) -> Result<(), NoMemory>
-    ensures { OnOk result (lists.new ≡ lists.old ++ map (λ memory. items_in counts.vars counts.memories (memory_reads (Some memory))) memories.now) }
+    ensures { OnOk result (lists.new ≡ lists.old ++ map (λ memory. items_in counts.vars counts.memories (memory_reads (Some memory)))
+        memories.now) }
 {
     for memory in memories {
         lists.push(read_by_memory(alloc, counts, memory)?)?;

@@ -8,7 +8,8 @@
 
 ghost use Rattle.std.specs.Prelude.{◌≡◌, ◌<◌, ◌≤◌, ◌⊎◌, ℕ, [], ◌∷◌, length, drop, slice_get, Some, None, IfOk, OnOk, IsTrue, IsFalse};
 ghost use Rattle.ft_core.specs.meaning.Order.{AreItems, ReadsItem};
-ghost use Rattle.ft_core.specs.walk.Walk.{IsIn, IsLone, Walks, Advances, Finishes, IsNew, IsOpened, IsTop, Joins, IsLeast, IsLeastAfter, BeginsBy, left};
+ghost use Rattle.ft_core.specs.walk.Walk.{IsIn, IsLone, Walks, Advances, Finishes, IsNew, IsOpened, IsTop, Joins, IsLeast, IsLeastAfter};
+ghost use Rattle.ft_core.specs.walk.Walk.{BeginsBy, left};
 ghost use Rattle.ft_core.specs.declared.walk.Component.{Component};
 
 use ft_base::{List, NoMemory};

@@ -1,5 +1,6 @@
 -- The age of a timer: it sees the scans up to this one, goes on by one scan at a time, and is full where the condition is held.
-use Rattle.std.proofs.Common.{◌≡◌, ◌∙◌, sym, ap, refl, ℕ, zero, suc, ◌+◌, ◌-◌, ◌<◌, ◌≤◌, ℤ, pos, negsuc, ◌+ℤ◌, ◌≤ℤ◌, Bool, true, false, cond, ◌&&◌, ◌||◌, List, [], ◌∷◌, ◌++◌, Option, Some, None, arith, ⊎_elim, true≢false}
+use Rattle.std.proofs.Common.{◌≡◌, ◌∙◌, sym, ap, refl, ℕ, zero, suc, ◌+◌, ◌-◌, ◌<◌, ◌≤◌, ℤ, pos, negsuc, ◌+ℤ◌, ◌≤ℤ◌, Bool, true, false}
+use Rattle.std.proofs.Common.{cond, ◌&&◌, ◌||◌, List, [], ◌∷◌, ◌++◌, Option, Some, None, arith, ⊎_elim, true≢false}
 use Rattle.std.specs.Prelude.{int_le, ⊤}
 use Rattle.std.specs.List.{list_all, list_any, find, range_with_len}
 use Rattle.std.specs.Option.{option_or}
@@ -25,7 +26,8 @@ scans_one t = let one : suc t - t ≡ 1 = omega arith in ap (range_with_len t) o
 scans_none : (t : ℕ) → scans (suc t) t ≡ []
 scans_none t = let none : suc t - suc t ≡ zero = omega arith in ap (range_with_len (suc t)) none
 
-same_find : (p q : ℕ → Bool) (a n : ℕ) → ((j : ℕ) → a ≤ j → j < a + n → p j ≡ q j) → find p (range_with_len a n) ≡ find q (range_with_len a n)
+same_find : (p q : ℕ → Bool) (a n : ℕ) → ((j : ℕ) → a ≤ j → j < a + n → p j ≡ q j) → find p (range_with_len a n)
+    ≡ find q (range_with_len a n)
 same_find p q a zero h = refl
 same_find p q a (suc n) h =
     let here = h a (omega arith) (omega arith) in
@@ -77,7 +79,8 @@ module _ (from : ℕ) where
   run_low c t low = found_low (λ j. list_all c (scans j t)) from (suc t - from) t (omega (arith, low))
 
   -- an age sees the scans up to this one
-  pub same_age : (ago : ℕ → ℤ) (hold : ℤ) (c d : ℕ → Bool) (t : ℕ) → ((j : ℕ) → j ≤ t → c j ≡ d j) → age from ago hold c t ≡ age from ago hold d t
+  pub same_age : (ago : ℕ → ℤ) (hold : ℤ) (c d : ℕ → Bool) (t : ℕ) → ((j : ℕ) → j ≤ t → c j ≡ d j) → age from ago hold c t
+      ≡ age from ago hold d t
   same_age ago hold c d t h = ap (aged ago hold) (same_find (λ j. list_all c (scans j t)) (λ j. list_all d (scans j t)) from (suc t - from)
       (λ j low high. same_all c d j (suc t - j) (λ k below above. h k (omega (arith, below, above)))))
 
@@ -90,20 +93,24 @@ module _ (from : ℕ) where
   run_next c t low =
       let p : ℕ → Bool = λ j. list_all c (scans j t) in
       let last : find p (suc t ∷ []) ≡ Some (suc t) = ap (λ js. cond (list_all c js) (Some (suc t)) None) (scans_none t) in
-      same_find (λ j. list_all c (scans j (suc t))) (λ j. p j && c (suc t)) from (suc (suc t) - from) (λ j below above. run_longer c t j (omega (arith, above, low)))
+      same_find (λ j. list_all c (scans j (suc t))) (λ j. p j && c (suc t)) from (suc (suc t) - from)
+      (λ j below above. run_longer c t j (omega (arith, above, low)))
       ∙ find_and p (c (suc t)) (scans from (suc t))
-      ∙ ap (λ o. cond (c (suc t)) o None) (ap (find p) (scans_more from t low) ∙ find-append p (scans from t) (suc t ∷ []) ∙ ap (option_or (run_start c t)) last)
+      ∙ ap (λ o. cond (c (suc t)) o None) (ap (find p) (scans_more from t low) ∙ find-append p (scans from t) (suc t ∷ [])
+      ∙ ap (option_or (run_start c t)) last)
 
   module _ (hold elapsed : ℤ) (low : pos 0 ≤ℤ hold) (up : pos 0 ≤ℤ elapsed) (past now : ℕ → ℤ) (t : ℕ) (start : from ≤ t)
       (there : (j : ℕ) → j ≤ t → pos 0 ≤ℤ past j) (later : (j : ℕ) → j ≤ t → now j ≡ past j +ℤ elapsed) (none : now (suc t) ≡ pos 0) where
-    aged_next : (b : Bool) (o : Option ℕ) → UpTo t o → aged now hold (cond b (option_or o (Some (suc t))) None) ≡ next_age hold elapsed (aged past hold o) b
+    aged_next : (b : Bool) (o : Option ℕ) → UpTo t o → aged now hold (cond b (option_or o (Some (suc t))) None)
+        ≡ next_age hold elapsed (aged past hold o) b
     aged_next false o h = refl
     aged_next true None h = ap (int_min hold) none ∙ min_none hold low
     aged_next true (Some j) h = ap (int_min hold) (later j h) ∙ min_next hold (past j) elapsed low up (there j h)
 
     -- it goes on by one scan
     pub age_next : (c : ℕ → Bool) → age from now hold c (suc t) ≡ next_age hold elapsed (age from past hold c t) (c (suc t))
-    age_next c = ap (aged now hold) (run_next c t (omega (arith, start))) ∙ aged_next (c (suc t)) (run_start c t) (run_low c t (omega (arith, start)))
+    age_next c = ap (aged now hold) (run_next c t (omega (arith, start)))
+        ∙ aged_next (c (suc t)) (run_start c t) (run_low c t (omega (arith, start)))
 
   span_by : (ago : ℕ → ℤ) (hold : ℤ) (t : ℕ) (o : Option ℕ) → pos 0 ≤ℤ hold → ((j : ℕ) → j ≤ t → pos 0 ≤ℤ ago j) → UpTo t o
       → (negsuc 0 ≤ℤ aged ago hold o) × (aged ago hold o ≤ℤ hold)
@@ -116,7 +123,8 @@ module _ (from : ℕ) where
   age_span ago hold c t start low there = span_by ago hold t (run_start c t) low there (run_low c t (omega (arith, start)))
 
 -- it begins at 0
-pub age_first : (t : ℕ) (ago : ℕ → ℤ) (hold : ℤ) (c : ℕ → Bool) → ago t ≡ pos 0 → pos 0 ≤ℤ hold → age t ago hold c t ≡ cond (c t) (pos 0) (negsuc 0)
+pub age_first : (t : ℕ) (ago : ℕ → ℤ) (hold : ℤ) (c : ℕ → Bool) → ago t ≡ pos 0 → pos 0 ≤ℤ hold → age t ago hold c t
+    ≡ cond (c t) (pos 0) (negsuc 0)
 age_first t ago hold c none low =
     ap (λ js. aged t ago hold (find (λ j. list_all c (scans j t)) js)) (scans_one t)
     ∙ ap (λ js. aged t ago hold (cond (list_all c js) (Some t) None)) (scans_one t)
@@ -149,7 +157,8 @@ module _ (p q : ℕ → Bool) (falls : (j k : ℕ) → j ≤ k → q k ≡ true 
   first_by a false rest o h e = dropped (q a) rest ∙ e
 
   -- where a test that falls and another are met together at some place, the first place of the other does
-  any_is_first : (a n : ℕ) → list_any (λ j. q j && p j) (range_with_len a n) ≡ elim (find p (range_with_len a n)) [ None ↦ false | Some j ↦ q j ]
+  any_is_first : (a n : ℕ) → list_any (λ j. q j && p j) (range_with_len a n)
+      ≡ elim (find p (range_with_len a n)) [ None ↦ false | Some j ↦ q j ]
   any_is_first a zero = refl
   any_is_first a (suc n) = first_by a (p a) (list_any (λ j. q j && p j) (range_with_len (a + 1) n)) (find p (range_with_len (a + 1) n))
       (any_falls (a + 1) n a (omega arith)) (any_is_first (a + 1) n)
@@ -172,7 +181,8 @@ full_by hold ago (Some j) low = full hold (ago j)
 pub held_is : (from : ℕ) (ago : ℕ → ℤ) (hold : ℤ) (condition : ℕ → Bool) (t : ℕ) → ((j k : ℕ) → j ≤ k → ago k ≤ℤ ago j) → pos 0 ≤ℤ hold
     → held from ago hold condition t ≡ int_le hold (age from ago hold condition t)
 held_is from ago hold condition t falls low =
-    any_is_first (λ j. list_all condition (scans j t)) (λ j. int_le hold (ago j)) (λ j k l e. le_true (ago k) (ago j) hold e (falls j k l)) from (suc t - from)
+    any_is_first (λ j. list_all condition (scans j t)) (λ j. int_le hold (ago j)) (λ j k l e. le_true (ago k) (ago j) hold e (falls j k l))
+    from (suc t - from)
     ∙ full_by hold ago (find (λ j. list_all condition (scans j t)) (scans from t)) low
 
 age_most : (hold : ℤ) (ago : ℕ → ℤ) (o : Option ℕ) → pos 0 ≤ℤ hold → elim o [ None ↦ negsuc 0 | Some j ↦ int_min hold (ago j) ] ≤ℤ hold

@@ -5,13 +5,16 @@ use Rattle.std.proofs.lemmas.List.Elements.{Contains-append_left, Contains-appen
 use Rattle.ft_base.specs.Division.{floor_of}
 use Rattle.ft_core.specs.declared.term.Term.{Term}
 use Rattle.ft_core.specs.declared.term.Term.TheOpen as tl
-use Rattle.ft_core.specs.declared.term.Term.TheVariants.{rolls-Now, rolls-Prev, rolls-Age, rolls-Neg, rolls-Add, rolls-Sub, rolls-Times, rolls-Div}
+use Rattle.ft_core.specs.declared.term.Term.TheVariants.{rolls-Now, rolls-Prev, rolls-Age, rolls-Neg, rolls-Add, rolls-Sub, rolls-Times}
+use Rattle.ft_core.specs.declared.term.Term.TheVariants.{rolls-Div}
 use Rattle.ft_core.specs.declared.term.Cond.{Cond}
 use Rattle.ft_core.specs.declared.term.Cond.TheOpen as cl
 use Rattle.ft_core.specs.declared.term.Cond.TheVariants.{rolls-Compare, rolls-Memory, rolls-Not, rolls-And, rolls-Or}
 use Rattle.ft_core.specs.meaning.Reads.{Read, at_now, at_before, of_memory, of_age, term_reads, cond_reads}
 use Rattle.ft_core.specs.laws.Equations.{term_induction, cond_induction, reads-rolled, cond_reads-rolled}
-pub use Rattle.ft_mean.specs.laws.Equations.{value-Num, value-Now, value-Prev, value-Age, value-Neg, value-Add, value-Sub, value-Times, value-Div, truth-Yes, truth-No, truth-Compare, truth-Memory, truth-Not, truth-And, truth-Or, evaluation}
+pub use Rattle.ft_mean.specs.laws.Equations.{value-Num, value-Now, value-Prev, value-Age, value-Neg, value-Add, value-Sub, value-Times}
+pub use Rattle.ft_mean.specs.laws.Equations.{value-Div, truth-Yes, truth-No, truth-Compare, truth-Memory, truth-Not, truth-And, truth-Or}
+pub use Rattle.ft_mean.specs.laws.Equations.{evaluation}
 pub use Rattle.ft_mean.specs.laws.EvaluationLaws.{Same, AllSame}
 use Rattle.ft_mean.specs.meaning.Value.{View, value, compares, truth}
 
@@ -46,8 +49,10 @@ module _ (v w : View) where
         let l = p (left _ _ _ e h) in let r = q (right _ _ _ e h) in value-Add v a b ∙ (λ i. l i +ℤ r i) ∙ sym (value-Add w a b);
     less = λ a b p q h. let e = reads-rolled _ (tl.Sub a b) (rolls-Sub a b) in
         let l = p (left _ _ _ e h) in let r = q (right _ _ _ e h) in value-Sub v a b ∙ (λ i. l i -ℤ r i) ∙ sym (value-Sub w a b);
-    scaled = λ c e same h. value-Times v c e ∙ ap (λ z. c *ℤ z) (same (all _ _ (reads-rolled _ (tl.Times c e) (rolls-Times c e)) h)) ∙ sym (value-Times w c e);
-    divided = λ e k same h. value-Div v e k ∙ ap (λ z. floor_of z k) (same (all _ _ (reads-rolled _ (tl.Div e k) (rolls-Div e k)) h)) ∙ sym (value-Div w e k);
+    scaled = λ c e same h. value-Times v c e ∙ ap (λ z. c *ℤ z) (same (all _ _ (reads-rolled _ (tl.Times c e) (rolls-Times c e)) h))
+        ∙ sym (value-Times w c e);
+    divided = λ e k same h. value-Div v e k ∙ ap (λ z. floor_of z k) (same (all _ _ (reads-rolled _ (tl.Div e k) (rolls-Div e k)) h))
+        ∙ sym (value-Div w e k);
   })
 
   abbrev IsSameCond : Cond → Type 0

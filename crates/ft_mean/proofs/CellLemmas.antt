@@ -1,5 +1,6 @@
 -- The cells of a table: what they read, and the one that holds.
-use Rattle.std.proofs.Common.{◌≡◌, ◌∙◌, sym, ap, subst, refl, ℕ, zero, suc, ◌+◌, ℤ, Bool, true, false, ◌&&◌, ◌||◌, cond, List, [], ◌∷◌, ◌++◌, map, length, slice_get, Some, arith, ⊎_elim, append-nil}
+use Rattle.std.proofs.Common.{◌≡◌, ◌∙◌, sym, ap, subst, refl, ℕ, zero, suc, ◌+◌, ℤ, Bool, true, false, ◌&&◌, ◌||◌, cond, List, [], ◌∷◌}
+use Rattle.std.proofs.Common.{◌++◌, map, length, slice_get, Some, arith, ⊎_elim, append-nil}
 use Rattle.std.specs.Prelude.{⊤, filter, ◌==◌}
 use Rattle.std.specs.List.{Contains, All, list_any, list_all, flat_map, zip, enumerate_from}
 use Rattle.std.specs.Ordering.{int_eq}
@@ -77,10 +78,12 @@ module _ (P : Read → Type 0) where
   OfCell cell = AllOf (cell_reads cell)
 
   term_rows : (rows : List (List Term)) → AllOf (flat_map (flat_map term_reads) rows) → Each (Each OfTerm) rows
-  term_rows rows h = each_more (λ es. AllOf (flat_map term_reads es)) (Each OfTerm) rows (λ es. each_reads term_reads es) (each_reads (flat_map term_reads) rows h)
+  term_rows rows h = each_more (λ es. AllOf (flat_map term_reads es)) (Each OfTerm) rows (λ es. each_reads term_reads es)
+      (each_reads (flat_map term_reads) rows h)
 
   cond_rows : (rows : List (List Cond)) → AllOf (flat_map (flat_map cond_reads) rows) → Each (Each OfCond) rows
-  cond_rows rows h = each_more (λ cs. AllOf (flat_map cond_reads cs)) (Each OfCond) rows (λ cs. each_reads cond_reads cs) (each_reads (flat_map cond_reads) rows h)
+  cond_rows rows h = each_more (λ cs. AllOf (flat_map cond_reads cs)) (Each OfCond) rows (λ cs. each_reads cond_reads cs)
+      (each_reads (flat_map cond_reads) rows h)
 
   -- the cells of one row
   row_reads : (n i target : ℕ) (columns : List (List Cond × Term)) → Each (λ c. Each OfCond c.0 × OfTerm c.1) columns
@@ -101,8 +104,10 @@ module _ (P : Read → Type 0) where
   vector_columns (c ∷ cs) [] hc he = tt
   vector_columns (c ∷ cs) (e ∷ es) hc he = (((hc.0, tt), he.0), vector_columns cs es hc.1 he.1)
 
-  normal_reads : (n target : ℕ) (columns rows : List Cond) (terms : List (List Term)) → Each OfCond columns → Each OfCond rows → Each (Each OfTerm) terms
-      → Each OfCell (flat_map (λ r. row_cells r.0 target (zip (map (λ column. r.1.0 ∷ column ∷ []) columns) r.1.1)) (enumerate_from n (zip rows terms)))
+  normal_reads : (n target : ℕ) (columns rows : List Cond) (terms : List (List Term)) → Each OfCond columns → Each OfCond rows
+      → Each (Each OfTerm) terms
+      → Each OfCell (flat_map (λ r. row_cells r.0 target (zip (map (λ column. r.1.0 ∷ column ∷ []) columns) r.1.1))
+      (enumerate_from n (zip rows terms)))
   normal_reads n target columns [] terms hc hr ht = tt
   normal_reads n target columns (r ∷ rows) [] hc hr ht = tt
   normal_reads n target columns (r ∷ rows) (es ∷ terms) hc hr ht = each-append OfCell
@@ -110,8 +115,10 @@ module _ (P : Read → Type 0) where
       (row_reads 0 n target _ (normal_columns r hr.0 columns es hc ht.0))
       (normal_reads (n + 1) target columns rows terms hc hr.1 ht.1)
 
-  inverted_reads : (n target : ℕ) (terms : List Term) (rows : List Cond) (grid : List (List Cond)) → Each OfTerm terms → Each OfCond rows → Each (Each OfCond) grid
-      → Each OfCell (flat_map (λ r. row_cells r.0 target (zip (map (λ entry. r.1.0 ∷ entry ∷ []) r.1.1) terms)) (enumerate_from n (zip rows grid)))
+  inverted_reads : (n target : ℕ) (terms : List Term) (rows : List Cond) (grid : List (List Cond)) → Each OfTerm terms → Each OfCond rows
+      → Each (Each OfCond) grid
+      → Each OfCell (flat_map (λ r. row_cells r.0 target (zip (map (λ entry. r.1.0 ∷ entry ∷ []) r.1.1) terms))
+      (enumerate_from n (zip rows grid)))
   inverted_reads n target terms [] grid ht hr hg = tt
   inverted_reads n target terms (r ∷ rows) [] ht hr hg = tt
   inverted_reads n target terms (r ∷ rows) (cs ∷ grid) ht hr hg = each-append OfCell
@@ -119,8 +126,10 @@ module _ (P : Read → Type 0) where
       (row_reads 0 n target _ (normal_columns r hr.0 cs terms hg.0 ht))
       (inverted_reads (n + 1) target terms rows grid ht hr.1 hg.1)
 
-  vector_reads : (n : ℕ) (columns : List Cond) (targets : List ℕ) (terms : List (List Term)) → Each OfCond columns → Each (Each OfTerm) terms
-      → Each OfCell (flat_map (λ r. row_cells r.0 r.1.0 (zip (map (λ column. column ∷ []) columns) r.1.1)) (enumerate_from n (zip targets terms)))
+  vector_reads : (n : ℕ) (columns : List Cond) (targets : List ℕ) (terms : List (List Term)) → Each OfCond columns
+      → Each (Each OfTerm) terms
+      → Each OfCell (flat_map (λ r. row_cells r.0 r.1.0 (zip (map (λ column. column ∷ []) columns) r.1.1))
+      (enumerate_from n (zip targets terms)))
   vector_reads n columns [] terms hc ht = tt
   vector_reads n columns (x ∷ targets) [] hc ht = tt
   vector_reads n columns (x ∷ targets) (es ∷ terms) hc ht = each-append OfCell
@@ -185,7 +194,8 @@ module _ (V W : View) where
       ≡ list_any (λ d. int_eq z (value W d.term)) (cond b (c ∷ holding W cs) (holding W cs))) [
         | true ↦ λ e. ap (list_any (λ d. int_eq z (value V d.term))) (cond-true (cell_holds V c) (c ∷ holding V cs) (holding V cs) e)
             ∙ (λ i. int_eq z (values i) || more i)
-        | false ↦ λ e. ap (list_any (λ d. int_eq z (value V d.term))) (cond-false (cell_holds V c) (c ∷ holding V cs) (holding V cs) e) ∙ more
+        | false ↦ λ e. ap (list_any (λ d. int_eq z (value V d.term))) (cond-false (cell_holds V c) (c ∷ holding V cs) (holding V cs) e)
+            ∙ more
       ] same
 
 -- the one cell that holds
@@ -194,7 +204,8 @@ pub record OneCell (V : View) (cells : List Cell) (range : ℤ × ℤ) : Type 0 
   pub is : holding V cells ≡ cell ∷ []
   pub in_range : IsWithin range (value V cell.term)
 
-one_of : (V : View) (range : ℤ × ℤ) (cs held : List Cell) → holding V cs ≡ held → length held ≡ 1 → All (λ c. IsWithin range (value V c.term)) held → OneCell V cs range
+one_of : (V : View) (range : ℤ × ℤ) (cs held : List Cell) → holding V cs ≡ held → length held ≡ 1
+    → All (λ c. IsWithin range (value V c.term)) held → OneCell V cs range
 one_of V range cs [] is one all = absurd (omega (arith, one))
 one_of V range cs (c ∷ []) is one all = record { cell = c; is = is; in_range = all 0 c (omega arith) }
 one_of V range cs (c ∷ d ∷ rest) is one all = absurd (omega (arith, one))
@@ -221,25 +232,31 @@ module _ (test : ℕ → Bool) where
   row_defined n i target (c ∷ cs) is = (is, row_defined (n + 1) i target cs is)
 
   normal_defined : (n target : ℕ) (columns rows : List Cond) (terms : List (List Term)) → test target ≡ true
-      → Each Defined (flat_map (λ r. row_cells r.0 target (zip (map (λ column. r.1.0 ∷ column ∷ []) columns) r.1.1)) (enumerate_from n (zip rows terms)))
+      → Each Defined (flat_map (λ r. row_cells r.0 target (zip (map (λ column. r.1.0 ∷ column ∷ []) columns) r.1.1))
+      (enumerate_from n (zip rows terms)))
   normal_defined n target columns [] terms is = tt
   normal_defined n target columns (r ∷ rows) [] is = tt
   normal_defined n target columns (r ∷ rows) (es ∷ terms) is = each-append Defined
-      (row_cells n target (zip (map (λ column. r ∷ column ∷ []) columns) es)) _ (row_defined 0 n target _ is) (normal_defined (n + 1) target columns rows terms is)
+      (row_cells n target (zip (map (λ column. r ∷ column ∷ []) columns) es)) _ (row_defined 0 n target _ is)
+      (normal_defined (n + 1) target columns rows terms is)
 
   inverted_defined : (n target : ℕ) (terms : List Term) (rows : List Cond) (grid : List (List Cond)) → test target ≡ true
-      → Each Defined (flat_map (λ r. row_cells r.0 target (zip (map (λ entry. r.1.0 ∷ entry ∷ []) r.1.1) terms)) (enumerate_from n (zip rows grid)))
+      → Each Defined (flat_map (λ r. row_cells r.0 target (zip (map (λ entry. r.1.0 ∷ entry ∷ []) r.1.1) terms))
+      (enumerate_from n (zip rows grid)))
   inverted_defined n target terms [] grid is = tt
   inverted_defined n target terms (r ∷ rows) [] is = tt
   inverted_defined n target terms (r ∷ rows) (cs ∷ grid) is = each-append Defined
-      (row_cells n target (zip (map (λ entry. r ∷ entry ∷ []) cs) terms)) _ (row_defined 0 n target _ is) (inverted_defined (n + 1) target terms rows grid is)
+      (row_cells n target (zip (map (λ entry. r ∷ entry ∷ []) cs) terms)) _ (row_defined 0 n target _ is)
+      (inverted_defined (n + 1) target terms rows grid is)
 
   vector_defined : (n : ℕ) (columns : List Cond) (targets : List ℕ) (terms : List (List Term)) → Each (λ target. test target ≡ true) targets
-      → Each Defined (flat_map (λ r. row_cells r.0 r.1.0 (zip (map (λ column. column ∷ []) columns) r.1.1)) (enumerate_from n (zip targets terms)))
+      → Each Defined (flat_map (λ r. row_cells r.0 r.1.0 (zip (map (λ column. column ∷ []) columns) r.1.1))
+      (enumerate_from n (zip targets terms)))
   vector_defined n columns [] terms is = tt
   vector_defined n columns (x ∷ targets) [] is = tt
   vector_defined n columns (x ∷ targets) (es ∷ terms) is = each-append Defined
-      (row_cells n x (zip (map (λ column. column ∷ []) columns) es)) _ (row_defined 0 n x _ is.0) (vector_defined (n + 1) columns targets terms is.1)
+      (row_cells n x (zip (map (λ column. column ∷ []) columns) es)) _ (row_defined 0 n x _ is.0)
+      (vector_defined (n + 1) columns targets terms is.1)
 
 any_at : (targets : List ℕ) (i x : ℕ) → slice_get targets i ≡ Some x → list_any (λ target. target == x) targets ≡ true
 any_at [] i x e = absurd (none-some x e)
@@ -250,11 +267,13 @@ cells_defined : (g : Grid) → Each (λ c. defines g c.target ≡ true) (cells g
 cells_defined (Normal target columns rows terms) = normal_defined (λ x. target == x) 0 target columns rows terms (eq-eqb target target refl)
 cells_defined (Inverted target terms rows grid) = inverted_defined (λ x. target == x) 0 target terms rows grid (eq-eqb target target refl)
 cells_defined (Vector columns targets terms) =
-    vector_defined (λ x. list_any (λ target. target == x) targets) 0 columns targets terms (each_at _ targets (λ i x e. any_at targets i x e))
+    vector_defined (λ x. list_any (λ target. target == x) targets) 0 columns targets terms
+    (each_at _ targets (λ i x e. any_at targets i x e))
 
 -- a table that doesn't define a variable has no cell for it
 pub no_cells : (x : ℕ) (g : Grid) → defines g x ≡ false → cells_for x g ≡ []
-no_cells x g never = filter_none (λ c. c.target == x) (cells g) (each_more (λ c. defines g c.target ≡ true) (λ c. (c.target == x) ≡ false) (cells g)
+no_cells x g never = filter_none (λ c. c.target == x) (cells g) (each_more (λ c. defines g c.target ≡ true) (λ c. (c.target == x) ≡ false)
+    (cells g)
     (λ c it. ⊎_elim
     (λ same. absurd (both_ways (defines g x) never (subst (λ y. defines g y ≡ true) (eqb-true c.target x same) it)))
     (λ differs. differs) (cases_Bool (c.target == x)))
@@ -262,12 +281,14 @@ no_cells x g never = filter_none (λ c. c.target == x) (cells g) (each_more (λ 
 
 -- where one item alone passes a test, and every other gives nothing, all give what this one does
 only_at : {A B : Type 0} (test : A → Bool) (give : A → List B) (xs : List A) (k : ℕ) (x : A) → slice_get xs k ≡ Some x
-    → ((l : ℕ) (a : A) → slice_get xs l ≡ Some a → test a ≡ true → l ≡ k) → ((a : A) → test a ≡ false → give a ≡ []) → flat_map give xs ≡ give x
+    → ((l : ℕ) (a : A) → slice_get xs l ≡ Some a → test a ≡ true → l ≡ k) → ((a : A) → test a ≡ false → give a ≡ []) → flat_map give xs
+    ≡ give x
 only_at test give [] k x e one none = absurd (none-some x e)
 only_at test give (a ∷ xs) zero x e one none =
     (λ i. give a ++ rest i) ∙ append-nil (give a) ∙ ap give (same_Some a x e)
   where
-    gone : {A B : Type 0} (test : A → Bool) (give : A → List B) (xs : List A) → ((l : ℕ) (a : A) → slice_get xs l ≡ Some a → test a ≡ true → ⊥)
+    gone : {A B : Type 0} (test : A → Bool) (give : A → List B) (xs : List A)
+        → ((l : ℕ) (a : A) → slice_get xs l ≡ Some a → test a ≡ true → ⊥)
         → ((a : A) → test a ≡ false → give a ≡ []) → flat_map give xs ≡ []
     gone test give [] never none = refl
     gone test give (b ∷ ys) never none =
@@ -286,8 +307,10 @@ pub cells_of-is : (S : Tables) (section : Section) (x k : ℕ) (table : Table) �
     → is_for section x table ≡ true → ((l : ℕ) (a : Table) → slice_get S.tables l ≡ Some a → is_for section x a ≡ true → l ≡ k)
     → cells_of S section x ≡ cells_for x table.grid
 cells_of-is S section x k table there is one =
-    only_at (is_for section x) (λ t. cond (is_section t.section section) (cells_for x t.grid) []) S.tables k table there one (λ a other. nothing a other)
-    ∙ cond-true (is_section table.section section) (cells_for x table.grid) [] (and_parts (is_section table.section section) (defines table.grid x) is).0
+    only_at (is_for section x) (λ t. cond (is_section t.section section) (cells_for x t.grid) []) S.tables k table there one
+    (λ a other. nothing a other)
+    ∙ cond-true (is_section table.section section) (cells_for x table.grid) []
+    (and_parts (is_section table.section section) (defines table.grid x) is).0
   where
     nothing : (a : Table) → is_for section x a ≡ false → cond (is_section a.section section) (cells_for x a.grid) [] ≡ []
     nothing a other = ⊎_elim

@@ -17,7 +17,8 @@ unfolding at ago
 held-at_once = refl
 
 -- a hold of 70 ms is met at the third scan of a run
-held-third : (held 0 (ago 1) (pos 70) (at false (true ∷ true ∷ true ∷ [])) 1 ≡ false) × (held 0 (ago 2) (pos 70) (at false (true ∷ true ∷ true ∷ [])) 2 ≡ true)
+held-third : (held 0 (ago 1) (pos 70) (at false (true ∷ true ∷ true ∷ [])) 1 ≡ false)
+    × (held 0 (ago 2) (pos 70) (at false (true ∷ true ∷ true ∷ [])) 2 ≡ true)
 unfolding at ago
 held-third = (refl, refl)
 
@@ -26,7 +27,8 @@ held-broken : held 0 (ago 2) (pos 70) (at false (true ∷ false ∷ true ∷ [])
 unfolding at ago
 held-broken = refl
 
-age-grows : (age 0 (ago 0) (pos 70) (at false (true ∷ true ∷ true ∷ [])) 0 ≡ pos 0) × (age 0 (ago 1) (pos 70) (at false (true ∷ true ∷ true ∷ [])) 1 ≡ pos 50)
+age-grows : (age 0 (ago 0) (pos 70) (at false (true ∷ true ∷ true ∷ [])) 0 ≡ pos 0)
+    × (age 0 (ago 1) (pos 70) (at false (true ∷ true ∷ true ∷ [])) 1 ≡ pos 50)
     × (age 0 (ago 2) (pos 70) (at false (true ∷ true ∷ true ∷ [])) 2 ≡ pos 70)
 unfolding at ago
 age-grows = (refl, refl, refl)
@@ -36,12 +38,14 @@ unfolding at ago
 age-false = refl
 
 -- between its bounds a band keeps what it was
-hyst-keeps : (hyst 0 (pos 10) (pos 20) false (at (pos 0) (pos 20 ∷ pos 15 ∷ pos 10 ∷ [])) 1 ≡ true) × (hyst 0 (pos 10) (pos 20) false (at (pos 0) (pos 20 ∷ pos 15 ∷ pos 10 ∷ [])) 2 ≡ false)
+hyst-keeps : (hyst 0 (pos 10) (pos 20) false (at (pos 0) (pos 20 ∷ pos 15 ∷ pos 10 ∷ [])) 1 ≡ true)
+    × (hyst 0 (pos 10) (pos 20) false (at (pos 0) (pos 20 ∷ pos 15 ∷ pos 10 ∷ [])) 2 ≡ false)
 unfolding at
 hyst-keeps = (refl, refl)
 
 -- and its start where it met none
-hyst-starts : (hyst 0 (pos 10) (pos 20) true (at (pos 0) (pos 15 ∷ pos 11 ∷ pos 19 ∷ [])) 2 ≡ true) × (hyst 0 (pos 10) (pos 20) false (at (pos 0) (pos 15 ∷ pos 11 ∷ pos 19 ∷ [])) 2 ≡ false)
+hyst-starts : (hyst 0 (pos 10) (pos 20) true (at (pos 0) (pos 15 ∷ pos 11 ∷ pos 19 ∷ [])) 2 ≡ true)
+    × (hyst 0 (pos 10) (pos 20) false (at (pos 0) (pos 15 ∷ pos 11 ∷ pos 19 ∷ [])) 2 ≡ false)
 unfolding at
 hyst-starts = (refl, refl)
 

@@ -1,5 +1,6 @@
 -- At one scan the tables of a side have an answer.
-use Rattle.std.proofs.Common.{◌≡◌, ◌∙◌, sym, ap, subst, refl, ℕ, zero, suc, ◌<◌, ℤ, pos, true, false, cond, Option, Some, None, slice_get, arith, ⊎_elim, true≢false}
+use Rattle.std.proofs.Common.{◌≡◌, ◌∙◌, sym, ap, subst, refl, ℕ, zero, suc, ◌<◌, ℤ, pos, true, false, cond, Option, Some, None, slice_get}
+use Rattle.std.proofs.Common.{arith, ⊎_elim, true≢false}
 use Rattle.std.specs.Prelude.{IsTrue, ⊤, ◌==◌, ◌||◌}
 use Rattle.std.proofs.lemmas.Bool.{cases_Bool, cond-true, cond-false, eq-eqb, ne_eqb, both_ways, or_left}
 use Rattle.std.proofs.lemmas.Option.{same_Some, none-some}
@@ -71,7 +72,8 @@ pub record Pick (S : Tables) (kinds : Kinds) (P : ℤ → Type 0) (x : ℕ) : Ty
   pub in_range : (v : Var) → slice_get S.vars x ≡ Some v → IsWithin v.range z
   pub holds : (v : Var) → IsVar S kinds x v → P z
 
-module _ (S : Tables) (wf : IsWellFormed S) (kinds : Kinds) (P : ℤ → Type 0) (x : ℕ) (make : (v : Var) → IsVar S kinds x v → (z : ℤ) × IsWithin v.range z × P z) where
+module _ (S : Tables) (wf : IsWellFormed S) (kinds : Kinds) (P : ℤ → Type 0) (x : ℕ)
+    (make : (v : Var) → IsVar S kinds x v → (z : ℤ) × IsWithin v.range z × P z) where
   pick_of : (o : Option Var) → slice_get S.vars x ≡ o → Pick S kinds P x
   pick_of None e = record {
     z = pos 0;
@@ -116,12 +118,19 @@ module _ (S : Tables) (wf : IsWellFormed S) (proper : AllProper S) (s : Side) (a
       (λ given. (
         g x,
         given_range x v given,
-        ((λ u on. refl), (λ u on. absurd (disjoint s x v given.1 (ap (λ (w : Var). defined_kinds (section_of s) x w) (same_Some v u (sym is.0 ∙ on.0)) ∙ on.1)))),
+        (
+          (λ u on. refl),
+          (λ u on. absurd (disjoint s x v given.1 (ap (λ (w : Var). defined_kinds (section_of s) x w)
+              (same_Some v u (sym is.0 ∙ on.0)) ∙ on.1))),
+        ),
       ))
       (λ by_table. let made = make x v by_table in (
         made.0,
         made.1,
-        ((λ u on. absurd (disjoint s x v (ap (λ (w : Var). given_kinds s x w) (same_Some v u (sym is.0 ∙ on.0)) ∙ on.1) by_table.1)), (λ u on. made.2)),
+        (
+          (λ u on. absurd (disjoint s x v (ap (λ (w : Var). given_kinds s x w) (same_Some v u (sym is.0 ∙ on.0)) ∙ on.1) by_table.1)),
+          (λ u on. made.2),
+        ),
       ))
       (given_or_defined S wf s x v is)
 
@@ -130,7 +139,8 @@ module _ (S : Tables) (wf : IsWellFormed S) (proper : AllProper S) (s : Side) (a
 
   first_scan : ScanUpTo zero
   first_scan =
-      let picks : (x : ℕ) → Pick S (side_kinds s) (Suits (λ x z. ⊤) x) x = pick_scan (λ x z. ⊤) (λ x v is. (v.init, wf.inits x v is.0, tt)) in
+      let picks : (x : ℕ) → Pick S (side_kinds s) (Suits (λ x z. ⊤) x) x =
+      pick_scan (λ x z. ⊤) (λ x v is. (v.init, wf.inits x v is.0, tt)) in
       record {
         f = λ x. (picks x).z;
         in_range = λ x v is. (picks x).in_range v is;

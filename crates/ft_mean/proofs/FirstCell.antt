@@ -1,5 +1,6 @@
 -- The first cell that holds, by its row and its column.
-use Rattle.std.proofs.Common.{◌≡◌, ◌∙◌, sym, ap, refl, ℕ, zero, suc, ◌+◌, ◌<◌, ◌≤◌, Bool, true, false, cond, ◌&&◌, List, [], ◌∷◌, ◌++◌, map, length, drop, slice_get, Option, Some, None, arith, ⊎_elim}
+use Rattle.std.proofs.Common.{◌≡◌, ◌∙◌, sym, ap, refl, ℕ, zero, suc, ◌+◌, ◌<◌, ◌≤◌, Bool, true, false, cond, ◌&&◌, List, [], ◌∷◌, ◌++◌, map}
+use Rattle.std.proofs.Common.{length, drop, slice_get, Option, Some, None, arith, ⊎_elim}
 use Rattle.std.specs.Prelude.{filter, ◌==◌, min}
 use Rattle.std.specs.List.{find, list_all, flat_map, zip, enumerate_from}
 use Rattle.std.specs.Option.{option_map, option_or}

@@ -36,7 +36,8 @@ module _ (S : Tables) (kinds : Kinds) (h : Scans) (n : ℕ) where
   list_take : IsListOf S kinds h → IsListOf S kinds (take n h)
   list_take list = record {
     widths = λ t l. let in_both = inside n t h l in ap length (get_or-take n h t [] in_both.0) ∙ list.widths t in_both.1;
-    ranges = λ t x v l is. let in_both = inside n t h l in subst (IsWithin v.range) (sym (reading_take t x in_both.0)) (list.ranges t x v in_both.1 is);
+    ranges = λ t x v l is. let in_both = inside n t h l in subst (IsWithin v.range) (sym (reading_take t x in_both.0))
+        (list.ranges t x v in_both.1 is);
   }
 
 same_lengths : (n : ℕ) (p q : Scans) → length p ≡ length q → length (take n p) ≡ length (take n q)
@@ -57,7 +58,8 @@ allowed_shorter S h n some allowed = record {
     values = list_take S monitored h n allowed.monitored_list.values;
   };
   clauses = λ t l. let in_both = inside n t h l in
-      nat_same S (reading_of S monitored (take n h)) (reading_of S monitored h) t (λ j x v m is. reading_take S monitored h n j x (omega (arith, m, in_both.0)))
+      nat_same S (reading_of S monitored (take n h)) (reading_of S monitored h) t
+      (λ j x v m is. reading_take S monitored h n j x (omega (arith, m, in_both.0)))
       ∙ allowed.clauses t in_both.1;
 }
 
@@ -67,23 +69,27 @@ fits_shorter S s given trace n fits = record {
   lengths = same_lengths n trace given fits.lengths;
   values = list_take S (side_kinds s) trace n fits.values;
   same_given = λ t x v l is. let in_both = inside n t trace l in
-      reading_take S (side_kinds s) trace n t x in_both.0 ∙ fits.same_given t x v in_both.1 is ∙ sym (reading_take S (given_kinds s) given n t x in_both.0);
+      reading_take S (side_kinds s) trace n t x in_both.0 ∙ fits.same_given t x v in_both.1 is
+      ∙ sym (reading_take S (given_kinds s) given n t x in_both.0);
   follows = λ t l. let in_both = inside n t trace l in
       side_follows S s (side_reading S s trace) (side_reading S s (take n trace)) t
       (λ j x v m is. sym (reading_take S (side_kinds s) trace n j x (omega (arith, m, in_both.0)))) (fits.follows t in_both.1);
 }
 
-module _ (S : Tables) (section : Section) (kinds own : Kinds) (reads : (r : Read) → MayRead S section r → NowOf S own r) (list image : Scans) (n : ℕ) where
+module _ (S : Tables) (section : Section) (kinds own : Kinds) (reads : (r : Read) → MayRead S section r → NowOf S own r)
+    (list image : Scans) (n : ℕ) where
   maps_shorter : Maps S section kinds list image → Maps S section kinds (take n list) (take n image)
   maps_shorter maps = record {
     lengths = same_lengths n image list maps.lengths;
     values = list_take S (image_kinds section) image n maps.values;
     same_given = λ t x v l is other. let in_both = inside n t image l in
-        reading_take S (image_kinds section) image n t x in_both.0 ∙ maps.same_given t x v in_both.1 is other ∙ sym (reading_take S kinds list n t x in_both.0);
+        reading_take S (image_kinds section) image n t x in_both.0 ∙ maps.same_given t x v in_both.1 is other
+        ∙ sym (reading_take S kinds list n t x in_both.0);
     follows = λ t l x v is. let in_both = inside n t image l in
         ap (defined S section (look S (reading_of S kinds (take n list)) t) x) (reading_take S (image_kinds section) image n t x in_both.0)
         ∙ follows_again S (opened S) section own reads (look S (reading_of S kinds list) t) (look S (reading_of S kinds (take n list)) t)
-        (reading_of S (image_kinds section) image t) (λ y on. sym (reading_take S kinds list n t y in_both.0)) (maps.follows t in_both.1) x v is;
+        (reading_of S (image_kinds section) image t) (λ y on. sym (reading_take S kinds list n t y in_both.0)) (maps.follows t in_both.1) x
+        v is;
   }
 
 pub inputs_shorter : InputsShorter
@@ -96,7 +102,8 @@ pub same_fronts : SameFront
 same_fronts S proper s given trace other its n fr fq same =
     let mine = fits_shorter S s given trace n fr in
     let one = one_trace S proper s (take n given) mine.is_given in
-    one.1.alone (take n trace) mine ∙ sym (one.1.alone (take n its) (subst (λ g. Fits S s g (take n its)) (sym same) (fits_shorter S s other its n fq)))
+    one.1.alone (take n trace) mine ∙ sym (one.1.alone (take n its) (subst (λ g. Fits S s g (take n its)) (sym same)
+    (fits_shorter S s other its n fq)))
 
 pub differs_shorter : DiffersShorter
 differs_shorter S proper h k d =
@@ -115,9 +122,11 @@ differs_shorter S proper h k d =
           (outputs_shorter S d.s d.c n d.runs.outputs.is);
       in_list = omega (arith, long, d.in_list);
       same_before = λ t l x v is.
-          reading_take S (side_kinds side.Req) d.r n t x (omega (arith, l)) ∙ d.same_before t l x v is ∙ sym (reading_take S controlled d.c n t x (omega (arith, l)));
+          reading_take S (side_kinds side.Req) d.r n t x (omega (arith, l)) ∙ d.same_before t l x v is
+          ∙ sym (reading_take S controlled d.c n t x (omega (arith, l)));
       variable = d.variable;
       declared = d.declared;
       is_controlled = d.is_controlled;
-      differs = λ e. d.differs (sym (reading_take S (side_kinds side.Req) d.r n k d.variable (omega arith)) ∙ e ∙ reading_take S controlled d.c n k d.variable (omega arith));
+      differs = λ e. d.differs (sym (reading_take S (side_kinds side.Req) d.r n k d.variable (omega arith)) ∙ e
+          ∙ reading_take S controlled d.c n k d.variable (omega arith));
     }

@@ -43,14 +43,17 @@ module _ (V : View) (x : ℕ) (z : ℤ) where
   entry c = list_all (truth V) c.0 && int_eq z (value V c.1)
 
   row-gives : (n i target : ℕ) (columns : List (List Cond × Term))
-      → list_any gives (map (λ c. record { row = i; column = c.0; target = target; conds = c.1.0; term = c.1.1 }) (enumerate_from n columns))
+      → list_any gives (map (λ c. record { row = i; column = c.0; target = target; conds = c.1.0; term = c.1.1 })
+      (enumerate_from n columns))
       ≡ ((target == x) && list_any entry columns)
   row-gives n i target [] = nothing (target == x)
-  row-gives n i target (c ∷ cs) = ap (λ b. gives (record { row = i; column = n; target = target; conds = c.0; term = c.1 }) || b) (row-gives (n + 1) i target cs)
+  row-gives n i target (c ∷ cs) = ap (λ b. gives (record { row = i; column = n; target = target; conds = c.0; term = c.1 }) || b)
+      (row-gives (n + 1) i target cs)
       ∙ spread (target == x) (entry c) (list_any entry cs)
 
   -- under a row condition
-  under : (r : Cond) (columns : List Cond) (es : List Term) → list_any entry (zip (map (λ column. r ∷ column ∷ []) columns) es) ≡ row_gives V z r columns es
+  under : (r : Cond) (columns : List Cond) (es : List Term) → list_any entry (zip (map (λ column. r ∷ column ∷ []) columns) es)
+      ≡ row_gives V z r columns es
   under r [] es = nothing (truth V r)
   under r (c ∷ cs) [] = nothing (truth V r)
   under r (c ∷ cs) (e ∷ es) = by_row (truth V r) (truth V c) (int_eq z (value V e)) (gives_in V z cs es) (under r cs es)
@@ -70,35 +73,44 @@ module _ (V : View) (x : ℕ) (z : ℤ) where
       by_column true q h = λ i. q || h i
       by_column false q h = h
 
-  joined : (p : Bool) (xs ys : List Cell) (a b : Bool) → list_any gives xs ≡ (p && a) → list_any gives ys ≡ (p && b) → list_any gives (xs ++ ys) ≡ (p && (a || b))
+  joined : (p : Bool) (xs ys : List Cell) (a b : Bool) → list_any gives xs ≡ (p && a) → list_any gives ys ≡ (p && b)
+      → list_any gives (xs ++ ys) ≡ (p && (a || b))
   joined p xs ys a b h k = list_any-append gives xs ys ∙ (λ i. h i || k i) ∙ spread p a b
 
   normal-gives : (n target : ℕ) (columns rows : List Cond) (terms : List (List Term))
-      → list_any gives (flat_map (λ r. row_cells r.0 target (zip (map (λ column. r.1.0 ∷ column ∷ []) columns) r.1.1)) (enumerate_from n (zip rows terms)))
+      → list_any gives (flat_map (λ r. row_cells r.0 target (zip (map (λ column. r.1.0 ∷ column ∷ []) columns) r.1.1))
+      (enumerate_from n (zip rows terms)))
       ≡ ((target == x) && list_any (λ r. row_gives V z r.0 columns r.1) (zip rows terms))
   normal-gives n target columns [] terms = nothing (target == x)
   normal-gives n target columns (r ∷ rows) [] = nothing (target == x)
-  normal-gives n target columns (r ∷ rows) (es ∷ terms) = joined (target == x) (row_cells n target (zip (map (λ column. r ∷ column ∷ []) columns) es)) _ (row_gives V z r columns es) (list_any (λ r. row_gives V z r.0 columns r.1) (zip rows terms))
+  normal-gives n target columns (r ∷ rows) (es ∷ terms) = joined (target == x)
+      (row_cells n target (zip (map (λ column. r ∷ column ∷ []) columns) es)) _ (row_gives V z r columns es)
+      (list_any (λ r. row_gives V z r.0 columns r.1) (zip rows terms))
       (row-gives 0 n target (zip (map (λ column. r ∷ column ∷ []) columns) es) ∙ ap (λ b. (target == x) && b) (under r columns es))
       (normal-gives (n + 1) target columns rows terms)
 
   inverted-gives : (n target : ℕ) (terms : List Term) (rows : List Cond) (grid : List (List Cond))
-      → list_any gives (flat_map (λ r. row_cells r.0 target (zip (map (λ entry. r.1.0 ∷ entry ∷ []) r.1.1) terms)) (enumerate_from n (zip rows grid)))
+      → list_any gives (flat_map (λ r. row_cells r.0 target (zip (map (λ entry. r.1.0 ∷ entry ∷ []) r.1.1) terms))
+      (enumerate_from n (zip rows grid)))
       ≡ ((target == x) && list_any (λ r. row_gives V z r.0 r.1 terms) (zip rows grid))
   inverted-gives n target terms [] grid = nothing (target == x)
   inverted-gives n target terms (r ∷ rows) [] = nothing (target == x)
-  inverted-gives n target terms (r ∷ rows) (cs ∷ grid) = joined (target == x) (row_cells n target (zip (map (λ entry. r ∷ entry ∷ []) cs) terms)) _ (row_gives V z r cs terms) (list_any (λ r. row_gives V z r.0 r.1 terms) (zip rows grid))
+  inverted-gives n target terms (r ∷ rows) (cs ∷ grid) = joined (target == x)
+      (row_cells n target (zip (map (λ entry. r ∷ entry ∷ []) cs) terms)) _ (row_gives V z r cs terms)
+      (list_any (λ r. row_gives V z r.0 r.1 terms) (zip rows grid))
       (row-gives 0 n target (zip (map (λ entry. r ∷ entry ∷ []) cs) terms) ∙ ap (λ b. (target == x) && b) (under r cs terms))
       (inverted-gives (n + 1) target terms rows grid)
 
   vector-gives : (n : ℕ) (columns : List Cond) (targets : List ℕ) (terms : List (List Term))
-      → list_any gives (flat_map (λ r. row_cells r.0 r.1.0 (zip (map (λ column. column ∷ []) columns) r.1.1)) (enumerate_from n (zip targets terms)))
+      → list_any gives (flat_map (λ r. row_cells r.0 r.1.0 (zip (map (λ column. column ∷ []) columns) r.1.1))
+      (enumerate_from n (zip targets terms)))
       ≡ list_any (λ r. (r.0 == x) && gives_in V z columns r.1) (zip targets terms)
   vector-gives n columns [] terms = refl
   vector-gives n columns (t ∷ targets) [] = refl
   vector-gives n columns (t ∷ targets) (es ∷ terms) =
       list_any-append gives (row_cells n t (zip (map (λ column. column ∷ []) columns) es)) _
-      ∙ (λ i. (row-gives 0 n t (zip (map (λ column. column ∷ []) columns) es) ∙ ap (λ b. (t == x) && b) (along columns es)) i || vector-gives (n + 1) columns targets terms i)
+      ∙ (λ i. (row-gives 0 n t (zip (map (λ column. column ∷ []) columns) es) ∙ ap (λ b. (t == x) && b) (along columns es)) i
+      || vector-gives (n + 1) columns targets terms i)
 
   grid-gives : (g : Grid) → list_any gives (cells g) ≡ grid_gives V x z g
   grid-gives (Normal target columns rows terms) = normal-gives 0 target columns rows terms
@@ -106,11 +118,14 @@ module _ (V : View) (x : ℕ) (z : ℤ) where
   grid-gives (Vector columns targets terms) = vector-gives 0 columns targets terms
 
   -- of all tables of a section
-  pub defined-gives : (S : Tables) (section : Section) → defined S section V x z ≡ list_any (λ t. is_section t.section section && grid_gives V x z t.grid) S.tables
+  pub defined-gives : (S : Tables) (section : Section) → defined S section V x z
+      ≡ list_any (λ t. is_section t.section section && grid_gives V x z t.grid) S.tables
   defined-gives S section = any_filter (λ c. int_eq z (value V c.term)) (cell_holds V) (cells_of S section x) ∙ by_tables S.tables
     where
-      by_table : (b : Bool) (t : Table) → list_any (λ c. cell_holds V c && int_eq z (value V c.term)) (cond b (cells_for x t.grid) []) ≡ (b && grid_gives V x z t.grid)
-      by_table true t = any_filter (λ c. cell_holds V c && int_eq z (value V c.term)) (λ c. c.target == x) (cells t.grid) ∙ grid-gives t.grid
+      by_table : (b : Bool) (t : Table) → list_any (λ c. cell_holds V c && int_eq z (value V c.term)) (cond b (cells_for x t.grid) [])
+          ≡ (b && grid_gives V x z t.grid)
+      by_table true t = any_filter (λ c. cell_holds V c && int_eq z (value V c.term)) (λ c. c.target == x) (cells t.grid)
+          ∙ grid-gives t.grid
       by_table false t = refl
 
       by_tables : (tables : List Table) → list_any (λ c. cell_holds V c && int_eq z (value V c.term))

@@ -1,5 +1,6 @@
 -- The tests of a trace say that it fits.
-use Rattle.std.proofs.Common.{◌≡◌, ◌∙◌, sym, ap, subst, refl, ℕ, zero, suc, ◌+◌, ◌<◌, ◌≤◌, ℤ, pos, negsuc, Bool, true, false, cond, ◌&&◌, List, [], map, max, length, slice_get, slice_index_or, Option, Some, None, ◌∷◌, arith, ⊎_elim}
+use Rattle.std.proofs.Common.{◌≡◌, ◌∙◌, sym, ap, subst, refl, ℕ, zero, suc, ◌+◌, ◌<◌, ◌≤◌, ℤ, pos, negsuc, Bool, true, false, cond, ◌&&◌}
+use Rattle.std.proofs.Common.{List, [], map, max, length, slice_get, slice_index_or, Option, Some, None, ◌∷◌, arith, ⊎_elim}
 use Rattle.std.specs.Prelude.{◌↔◌, ◌==◌, IsTrue, unsigned_abs}
 use Rattle.std.specs.List.{range_with_len}
 use Rattle.std.specs.Ordering.{int_eq}
@@ -48,7 +49,8 @@ table_at f n w t x below past =
     ap (λ row. slice_index_or row x (pos 0)) (get_or-map-range_with_len (λ t. map (f t) (range_with_len 0 w)) 0 n t t [] below first)
     ∙ ⊎_elim
     (λ inside. get_or-map-range_with_len (f t) 0 w x x (pos 0) inside second)
-    (λ out. get_or_past (map (f t) (range_with_len 0 w)) x (pos 0) (omega (arith, out, length-map-range_with_len (f t) 0 w)) ∙ sym (past out))
+    (λ out. get_or_past (map (f t) (range_with_len 0 w)) x (pos 0) (omega (arith, out, length-map-range_with_len (f t) 0 w))
+    ∙ sym (past out))
     (cases_lt x w)
 
 table_past : (f : ℕ → ℕ → ℤ) (n w t x : ℕ) → n ≤ t
@@ -65,7 +67,8 @@ age_one None = omega arith
 age_one (Some (Held name s c hold)) = grind arith
 age_one (Some (Hyst name s e lo hi start)) = omega arith
 
-memory_in : {A : Type 0} (g : A → Bool) (xs : List A) (m : ℕ) → slice_index_or (map g xs) m false ≡ elim (slice_get xs m) [ None ↦ false | Some a ↦ g a ]
+memory_in : {A : Type 0} (g : A → Bool) (xs : List A) (m : ℕ) → slice_index_or (map g xs) m false
+    ≡ elim (slice_get xs m) [ None ↦ false | Some a ↦ g a ]
 memory_in g [] m = refl
 memory_in g (x ∷ xs) zero = refl
 memory_in g (x ∷ xs) (suc m) = memory_in g xs m
@@ -82,7 +85,8 @@ module _ (S : Tables) (s : Side) (trace : Scans) where
   init_past x out = ap (λ o. elim o as (λ z. ℤ) [ None ↦ pos 0 | Some v ↦ v.init ]) (slice_get_past S.vars x out)
 
   told_past : (t x : ℕ) → length S.vars ≤ x → ρ t x ≡ pos 0
-  told_past t x out = ap (λ b. cond b (slice_index_or (slice_index_or trace t []) (place_of (side_kinds s) S.vars x) (pos 0)) (init_of S x)) none ∙ init_past x out
+  told_past t x out = ap (λ b. cond b (slice_index_or (slice_index_or trace t []) (place_of (side_kinds s) S.vars x) (pos 0)) (init_of S x))
+      none ∙ init_past x out
     where
       none : is_of S.vars (side_kinds s) x ≡ false
       none = ap (λ o. elim o as (λ z. Bool) [ None ↦ false | Some v ↦ side_kinds s x v ]) (slice_get_past S.vars x out)
@@ -104,23 +108,28 @@ module _ (S : Tables) (s : Side) (trace : Scans) where
         (slice_get_cases S.vars x).1
 
     told_low : (t x : ℕ) → t < length trace → IsLow x (ρ t x)
-    told_low t x below = by_var x (ρ t x) (told_past t x) (λ v there. reading_range S (opened S) (side_kinds s) trace list t x v below there)
+    told_low t x below = by_var x (ρ t x) (told_past t x) (λ v there. reading_range S (opened S) (side_kinds s) trace list t x v below
+        there)
 
     before_low : (t x : ℕ) → t < length trace → IsLow x (before S ρ t x)
     before_low t x below = before_by S ρ (IsLow x) t x
         (by_var x (init_of S x) (init_past x)
-        (λ v there. subst (λ z. IsWithin v.range z) (sym (ap (λ o. elim o as (λ z. ℤ) [ None ↦ pos 0 | Some u ↦ u.init ]) there)) ((opened S).inits x v there)))
+        (λ v there. subst (λ z. IsWithin v.range z) (sym (ap (λ o. elim o as (λ z. ℤ) [ None ↦ pos 0 | Some u ↦ u.init ]) there))
+        ((opened S).inits x v there)))
         (λ k at. told_low k x (omega (arith, below, at)))
 
-    low_in : (f : ℕ → ℕ → ℤ) → ((t x : ℕ) → length S.vars ≤ x → f t x ≡ pos 0) → ((t x : ℕ) → t < length trace → IsLow x (f t x)) → (t x : ℕ)
-        → IsLow x (slice_index_or (slice_index_or (map (λ t. map (f t) (range_with_len 0 (length S.vars))) (range_with_len 0 (length trace))) t []) x (pos 0))
+    low_in : (f : ℕ → ℕ → ℤ) → ((t x : ℕ) → length S.vars ≤ x → f t x ≡ pos 0) → ((t x : ℕ) → t < length trace → IsLow x (f t x))
+        → (t x : ℕ)
+        → IsLow x (slice_index_or (slice_index_or (map (λ t. map (f t) (range_with_len 0 (length S.vars)))
+        (range_with_len 0 (length trace))) t []) x (pos 0))
     low_in f past low t x = ⊎_elim
         (λ below. subst (IsLow x) (sym (table_at f (length trace) (length S.vars) t x below (past t x))) (low t x below))
         (λ out. subst (IsLow x) (sym (table_past f (length trace) (length S.vars) t x out)) (zero_low x))
         (cases_lt t (length trace))
 
     -- whatever is small over the set is safe at each scan of a trace in range
-    pub safe_list : (test : List Var → List tables.Memory → Bool) → test S.vars S.memories ≡ true → (t : ℕ) → IsSafeBy (view_at start t) test
+    pub safe_list : (test : List Var → List tables.Memory → Bool) → test S.vars S.memories ≡ true → (t : ℕ)
+        → IsSafeBy (view_at start t) test
     safe_list test small t = record {
       vars = S.vars;
       memories = S.memories;
@@ -138,13 +147,19 @@ module _ (S : Tables) (s : Side) (trace : Scans) where
   same_view : (k t : ℕ) → t < length trace → KnowsAt k t → view_at (after_rounds S ρ k start) t ≡ at_scan S ρ (memory_within k S ρ) t
   same_view k t below knows =
       let now : (x : ℕ) → slice_index_or (slice_index_or (after_rounds S ρ k start).rows t []) x (pos 0) ≡ ρ t x = λ x.
-      ap (λ rows. slice_index_or (slice_index_or rows t []) x (pos 0)) (rows_kept S ρ start k) ∙ table_at ρ (length trace) (length S.vars) t x below (told_past t x) in
+      ap (λ rows. slice_index_or (slice_index_or rows t []) x (pos 0)) (rows_kept S ρ start k)
+      ∙ table_at ρ (length trace) (length S.vars) t x below (told_past t x) in
       let past : (x : ℕ) → slice_index_or (slice_index_or (after_rounds S ρ k start).past t []) x (pos 0) ≡ before S ρ t x = λ x.
-      ap (λ rows. slice_index_or (slice_index_or rows t []) x (pos 0)) (past_kept S ρ start k) ∙ table_at (before S ρ) (length trace) (length S.vars) t x below (before_past t x) in
+      ap (λ rows. slice_index_or (slice_index_or rows t []) x (pos 0)) (past_kept S ρ start k)
+      ∙ table_at (before S ρ) (length trace) (length S.vars) t x below (before_past t x) in
       λ i. record { now = λ x. now x i; before = λ x. past x i; age = λ m. negsuc 0; memory = λ m. knows m i }
 
-  by_memory : (k t : ℕ) → ((j : ℕ) → j ≤ t → view_at (after_rounds S ρ k start) j ≡ at_scan S ρ (memory_within k S ρ) j) → (o : Option tables.Memory)
-      → elim o as (λ z. Bool) [ None ↦ false | Some memory ↦ recalled (begun S ρ t) (λ j. since S ρ j t) (after_rounds S ρ k start) memory t ]
+  by_memory : (k t : ℕ) → ((j : ℕ) → j ≤ t → view_at (after_rounds S ρ k start) j ≡ at_scan S ρ (memory_within k S ρ) j)
+      → (o : Option tables.Memory)
+      → elim o as (λ z. Bool) [
+        | None ↦ false
+        | Some memory ↦ recalled (begun S ρ t) (λ j. since S ρ j t) (after_rounds S ρ k start) memory t
+      ]
       ≡ remembered S ρ (memory_within k S ρ) o t
   by_memory k t same None = refl
   by_memory k t same (Some (Held name s' c hold)) =
@@ -163,7 +178,8 @@ module _ (S : Tables) (s : Side) (trace : Scans) where
       ∙ length-map-range_with_len (λ t. map (ρ t) (range_with_len 0 (length S.vars))) 0 (length trace) in
       let first : 0 + t ≡ t = omega arith in
       ap (λ row. slice_index_or row m false)
-      (get_or-map-range_with_len (recalled_at S ρ (after_rounds S ρ k start)) 0 (length (after_rounds S ρ k start).rows) t t [] (omega (arith, long, below)) first)
+      (get_or-map-range_with_len (recalled_at S ρ (after_rounds S ρ k start)) 0 (length (after_rounds S ρ k start).rows) t t []
+      (omega (arith, long, below)) first)
       ∙ memory_in (λ memory. recalled (begun S ρ t) (λ j. since S ρ j t) (after_rounds S ρ k start) memory t) S.memories m
       ∙ by_memory k t (λ j l. same_view k j (omega (arith, l, below)) (knows k j (omega (arith, l, below)))) (slice_get S.memories m)
 
@@ -180,9 +196,11 @@ module _ (S : Tables) (s : Side) (trace : Scans) where
   same_table t x v z below is =
       let wf = opened S in
       let o = table_of S wf (section_of s) x v is in
-      ap (λ V. defined S (section_of s) V x z) (same_view (length S.vars + length S.memories) t below (knows (length S.vars + length S.memories) t below))
+      ap (λ V. defined S (section_of s) V x z) (same_view (length S.vars + length S.memories) t below
+      (knows (length S.vars + length S.memories) t below))
       ∙ defined_same S wf (section_of s) (at_scan S ρ (memory_at S ρ) t) (look S ρ t) x z o
-      (λ r c. ageless S wf s ρ t r (may_read s r (subst (λ z. MayRead S z r) o.is.1 (wf.tables_read o.place o.table r o.is.0 (own_reads o.table.grid x r c)))))
+      (λ r c. ageless S wf s ρ t r (may_read s r (subst (λ z. MayRead S z r) o.is.1
+      (wf.tables_read o.place o.table r o.is.0 (own_reads o.table.grid x r c)))))
 
   module _ (given : Scans) where
     abbrev right : ℕ → ℕ → Bool
@@ -213,15 +231,19 @@ module _ (S : Tables) (s : Side) (trace : Scans) where
           same_given = λ t x v below is. (Decides-int_eq (ρ t x) (reading_of S (given_kinds s) given t x)).0
               (asked_of S (given_kinds s) x v (int_eq (ρ t x) (reading_of S (given_kinds s) given t x)) is (at t x v below is.0).0);
           follows = λ t below x v is. sym (same_table t x v (ρ t x) below is)
-              ∙ asked_of S (defined_kinds (section_of s)) x v (defined S (section_of s) (view_at told t) x (ρ t x)) is (at t x v below is.0).1;
+              ∙ asked_of S (defined_kinds (section_of s)) x v (defined S (section_of s) (view_at told t) x (ρ t x)) is
+              (at t x v below is.0).1;
         }
           where
-            at : (t x : ℕ) (v : Var) → t < length trace → slice_get S.vars x ≡ Some v → (has_given S s given trace t x ≡ true) × (has_table S s trace told t x ≡ true)
+            at : (t x : ℕ) (v : Var) → t < length trace → slice_get S.vars x ≡ Some v → (has_given S s given trace t x ≡ true)
+                × (has_table S s trace told t x ≡ true)
             at t x v below there = and_parts (has_given S s given trace t x) (has_table S s trace told t x)
-                (through_at (right t) (length S.vars) (through_at (λ t. at_all S (right t)) (length trace) follows t below) x (slice_get_within S.vars x v there))
+                (through_at (right t) (length S.vars) (through_at (λ t. at_all S (right t)) (length trace) follows t below) x
+                (slice_get_within S.vars x v there))
 
         from : Fits S s given trace → IsTrue (follows_by S s given trace told)
-        from f = through_from (λ t. at_all S (right t)) (length trace) (λ t below. through_from (right t) (length S.vars) (λ x low. and_from _ _
+        from f = through_from (λ t. at_all S (right t)) (length trace)
+            (λ t below. through_from (right t) (length S.vars) (λ x low. and_from _ _
             (when_of S (given_kinds s) x (int_eq (ρ t x) (reading_of S (given_kinds s) given t x)) low
             (λ v is. (Decides-int_eq (ρ t x) (reading_of S (given_kinds s) given t x)).1 (f.same_given t x v below is)))
             (when_of S (defined_kinds (section_of s)) x (defined S (section_of s) (view_at told t) x (ρ t x)) low

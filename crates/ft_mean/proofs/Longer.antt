@@ -1,5 +1,6 @@
 -- A trace that fits goes on by one scan.
-use Rattle.std.proofs.Common.{◌≡◌, ◌∙◌, sym, ap, subst, ℕ, zero, suc, ◌+◌, ◌<◌, ◌≤◌, ℤ, pos, List, [], ◌∷◌, ◌++◌, length, slice_index_or, arith, ⊎_elim, ext_get_or, cond}
+use Rattle.std.proofs.Common.{◌≡◌, ◌∙◌, sym, ap, subst, ℕ, zero, suc, ◌+◌, ◌<◌, ◌≤◌, ℤ, pos, List, [], ◌∷◌, ◌++◌, length, slice_index_or}
+use Rattle.std.proofs.Common.{arith, ⊎_elim, ext_get_or, cond}
 use Rattle.std.proofs.lemmas.Bool.{cases_lt}
 use Rattle.std.proofs.lemmas.List.{length_push, get_or_push, get_or_append_left}
 use Rattle.ft_core.specs.declared.tables.Tables.{Tables}
@@ -17,11 +18,13 @@ use Rattle.ft_mean.proofs.WellFormed.{IsOf, opened}
 pub reading-push : (S : Tables) (kinds : Kinds) (h : Scans) (g : List ℤ) (t x : ℕ) → t < length h
     → reading_of S kinds (h ++ g ∷ []) t x ≡ reading_of S kinds h t x
 reading-push S kinds h g t x l =
-    ap (λ row. cond (is_of S.vars kinds x) (slice_index_or row (place_of kinds S.vars x) (pos 0)) (init_of S x)) (get_or_append_left h (g ∷ []) [] t l)
+    ap (λ row. cond (is_of S.vars kinds x) (slice_index_or row (place_of kinds S.vars x) (pos 0)) (init_of S x))
+    (get_or_append_left h (g ∷ []) [] t l)
 
 module _ (S : Tables) (proper : AllProper S) (s : Side) (h k r q : Scans) (fr : Fits S s h r) (fq : Fits S s k q)
     (n : ℕ) (in_r : n ≤ length r) (in_q : n ≤ length q)
-    (given : (j x : ℕ) (v : Var) → j < n → IsVar S (given_kinds s) x v → reading_of S (given_kinds s) h j x ≡ reading_of S (given_kinds s) k j x) where
+    (given : (j x : ℕ) (v : Var) → j < n → IsVar S (given_kinds s) x v → reading_of S (given_kinds s) h j x
+    ≡ reading_of S (given_kinds s) k j x) where
   agree : (m : ℕ) → m ≤ n → (j x : ℕ) → j < m → IsOf S (side_kinds s) x → side_reading S s r j x ≡ side_reading S s q j x
   agree zero below j x l on = absurd (omega (arith, l))
   agree (suc m) below j x l on = ⊎_elim
@@ -40,11 +43,14 @@ module _ (S : Tables) (proper : AllProper S) (s : Side) (h k r q : Scans) (fr : 
 
   -- traces over lists with the same first n scans have the same first n scans
   pub same_front : (i : ℕ) → i < n → slice_index_or r i [] ≡ slice_index_or q i []
-  same_front i l = same_rows (side_kinds s) S.vars _ _ (fr.values.widths i (omega (arith, l, in_r))) (fq.values.widths i (omega (arith, l, in_q)))
-      (λ x v is on. sym (reading_at S (side_kinds s) r i x v (is, on)) ∙ agree n (omega arith) i x l (v, (is, on)) ∙ reading_at S (side_kinds s) q i x v (is, on))
+  same_front i l = same_rows (side_kinds s) S.vars _ _ (fr.values.widths i (omega (arith, l, in_r)))
+      (fq.values.widths i (omega (arith, l, in_q)))
+      (λ x v is on. sym (reading_at S (side_kinds s) r i x v (is, on)) ∙ agree n (omega arith) i x l (v, (is, on))
+      ∙ reading_at S (side_kinds s) q i x v (is, on))
 
 -- the one trace over a longer list goes on from the one over the list
-pub fits_longer : (S : Tables) → AllProper S → (s : Side) (h r : Scans) (g : List ℤ) → IsListOf S (given_kinds s) (h ++ g ∷ []) → Fits S s h r
+pub fits_longer : (S : Tables) → AllProper S → (s : Side) (h r : Scans) (g : List ℤ) → IsListOf S (given_kinds s) (h ++ g ∷ [])
+    → Fits S s h r
     → (row : List ℤ) × Fits S s (h ++ g ∷ []) (r ++ row ∷ [])
 fits_longer S proper s h r g in_range fr =
     let one = one_trace S proper s (h ++ g ∷ []) in_range in

@@ -1,5 +1,6 @@
 -- What the look at a scan depends on: readings that agree on a side, or on the monitored variables, up to a scan.
-use Rattle.std.proofs.Common.{◌≡◌, ◌∙◌, sym, ap, subst, refl, ℕ, zero, suc, ◌+◌, ◌≤◌, Bool, true, false, ◌&&◌, cond, length, arith, true≢false}
+use Rattle.std.proofs.Common.{◌≡◌, ◌∙◌, sym, ap, subst, refl, ℕ, zero, suc, ◌+◌, ◌≤◌, Bool, true, false, ◌&&◌, cond, length, arith}
+use Rattle.std.proofs.Common.{true≢false}
 use Rattle.std.specs.Prelude.{IsTrue}
 use Rattle.std.specs.List.{list_all}
 use Rattle.ft_core.specs.declared.tables.Tables.{Tables}
@@ -32,7 +33,8 @@ side_ageless S s ρ t r on = ageless S (opened S) s ρ t r (side_test S s r on)
 pub local : LooksAreLocal
 local S ρ t range reads = look_local S (opened S) ρ t range reads
 
-side_may : (S : Tables) (s : Side) (r : Read) → IsTrue (may_read S.vars S.memories (section_of s) r) → IsTrue (on_side S.vars S.memories s r)
+side_may : (S : Tables) (s : Side) (r : Read) → IsTrue (may_read S.vars S.memories (section_of s) r)
+    → IsTrue (on_side S.vars S.memories s r)
 side_may S side.Req r may = may
 side_may S side.Sof r may = may
 
@@ -78,4 +80,5 @@ nat_same S a b t agree =
     let step = clauses_alike (step_of S.vars monitored) S.step (look S a t) (look S b t) S.sound.step_reads (step_read S a b t agree) in
     (λ i. always i && list_all (truth (look S a t)) (cond (begins S a t) S.first S.step))
     ∙ ap (λ b'. list_all (truth (look S b t)) S.always && b')
-    (ap (λ new. list_all (truth (look S a t)) (cond new S.first S.step)) (same_time S a b t).0 ∙ rest S a b t agree (begins S b t) first step)
+    (ap (λ new. list_all (truth (look S a t)) (cond new S.first S.step)) (same_time S a b t).0
+    ∙ rest S a b t agree (begins S b t) first step)

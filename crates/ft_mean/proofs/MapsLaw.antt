@@ -24,13 +24,15 @@ use Rattle.ft_mean.proofs.OneScan.{Answer, answer}
 use Rattle.ft_mean.proofs.Exists.{Pick, pick}
 use Rattle.ft_mean.proofs.Traces.{reading_at, reading_range, rows, length-rows, row_at, reading-rows}
 
-module _ (S : Tables) (wf : IsWellFormed S) (proper : AllProper S) (section : Section) (kinds : Kinds) (h : Scans) (in_range : IsListOf S kinds h) where
+module _ (S : Tables) (wf : IsWellFormed S) (proper : AllProper S) (section : Section) (kinds : Kinds) (h : Scans)
+    (in_range : IsListOf S kinds h) where
   abbrev here : ℕ → View
   here t = look S (reading_of S kinds h) t
 
   answer_at : (t x : ℕ) (v : Var) → t < length h → IsVar S (defined_kinds section) x v → Answer S section (here t) x v.range
   answer_at t x v l is = answer S wf proper section (here t) x v is
-      (λ o. look_local S wf (reading_of S kinds h) t (λ j y u m there. reading_range S wf kinds h in_range j y u (omega (arith, m, l)) there) _)
+      (λ o. look_local S wf (reading_of S kinds h) t (λ j y u m there. reading_range S wf kinds h in_range j y u (omega (arith, m, l))
+      there) _)
 
   abbrev Wanted : ℕ → ℕ → ℤ → Type 0
   Wanted t x z = t < length h → IsTrue (defined S section (here t) x z)
@@ -48,7 +50,8 @@ module _ (S : Tables) (wf : IsWellFormed S) (proper : AllProper S) (section : Se
   maps : Maps S section kinds h image
   maps =
       let long : length image ≡ length h = length-rows S (image_kinds section) (λ t x. (picks t x).z) (length h) in
-      let tells : (t x : ℕ) (v : Var) → t < length image → IsVar S (image_kinds section) x v → reading_of S (image_kinds section) image t x ≡ (picks t x).z =
+      let tells : (t x : ℕ) (v : Var) → t < length image → IsVar S (image_kinds section) x v → reading_of S (image_kinds section) image t x
+      ≡ (picks t x).z =
       λ t x v l is. reading-rows S (image_kinds section) (λ t x. (picks t x).z) (length h) t x v (omega (arith, l, long)) is in
       record {
         lengths = long;
@@ -64,7 +67,8 @@ module _ (S : Tables) (wf : IsWellFormed S) (proper : AllProper S) (section : Se
 
   same_images : (p q : Scans) → Maps S section kinds h p → Maps S section kinds h q → p ≡ q
   same_images p q fp fq = ext_get_or [] p q (fp.lengths ∙ sym fq.lengths) (λ i below.
-      same_rows (image_kinds section) S.vars _ _ (fp.values.widths i below) (fq.values.widths i (omega (arith, below, fp.lengths, fq.lengths)))
+      same_rows (image_kinds section) S.vars _ _ (fp.values.widths i below)
+      (fq.values.widths i (omega (arith, below, fp.lengths, fq.lengths)))
       (λ x v is k.
       let on = of_image S section x v (is, k) in
       let one = answer_at i x v (omega (arith, below, fp.lengths)) on in

@@ -1,5 +1,6 @@
 -- Each memory meets its own definition, sees only the scans and variables that it reads, and is linked to them.
-use Rattle.std.proofs.Common.{◌≡◌, ◌∙◌, sym, ap, subst, refl, ℕ, zero, suc, ◌+◌, ◌<◌, ◌≤◌, ℤ, Bool, length, List, Option, Some, None, pos, slice_get, arith, ⊎_elim}
+use Rattle.std.proofs.Common.{◌≡◌, ◌∙◌, sym, ap, subst, refl, ℕ, zero, suc, ◌+◌, ◌<◌, ◌≤◌, ℤ, Bool, length, List, Option, Some, None, pos}
+use Rattle.std.proofs.Common.{slice_get, arith, ⊎_elim}
 use Rattle.std.specs.Prelude.{IsTrue, int_le}
 use Rattle.ft_mean.specs.meaning.Past.{held, hyst}
 use Rattle.std.specs.List.{Contains}
@@ -43,7 +44,8 @@ module _ (S : Tables) (rank : Read → ℕ) (order : IsOrder S rank) where
   IsSettled a n = (m t : ℕ) → rank (of_memory m) < n → memory_within n S a m t ≡ memory_within (suc n) S a m t
 
   settled_read : (a : Reading) (n : ℕ) → IsSettled a n → (m j : ℕ) → rank (of_memory m) < suc n → (r : Read)
-      → Contains (memory_reads (slice_get S.memories m)) r → Same (at_scan S a (memory_within n S a) j) (at_scan S a (memory_within (suc n) S a) j) r
+      → Contains (memory_reads (slice_get S.memories m)) r → Same (at_scan S a (memory_within n S a) j)
+      (at_scan S a (memory_within (suc n) S a) j) r
   settled_read a n past m j below (at_now x) c = refl
   settled_read a n past m j below (at_before x) c = refl
   settled_read a n past m j below (of_memory k) c = past k j (omega (arith, order.memories m (of_memory k) c refl, below))
@@ -62,7 +64,8 @@ module _ (S : Tables) (rank : Read → ℕ) (order : IsOrder S rank) where
   memory_at-is a m t = settled a (length S.vars + length S.memories) m t (order.bounded (of_memory m))
 
 module _ (S : Tables) (wf : IsWellFormed S) where
-  memory_side : (s : Side) (m : ℕ) → OnSide S s (of_memory m) → (r : Read) → Contains (memory_reads (slice_get S.memories m)) r → OnSide S s r
+  memory_side : (s : Side) (m : ℕ) → OnSide S s (of_memory m) → (r : Read) → Contains (memory_reads (slice_get S.memories m)) r
+      → OnSide S s r
   memory_side s m on r c =
       subst (λ s. OnSide S s r) on.2 (wf.memories_read m on.0 r on.1 (subst (λ o. Contains (memory_reads o) r) on.1 c))
 
@@ -89,12 +92,14 @@ module _ (S : Tables) (wf : IsWellFormed S) where
           deeper q i (memory_side s m on (of_memory q) c) (omega (arith, wf.order.memories m (of_memory q) c refl, low)) l
       read_same n top m on low deeper i l (of_age q) c = absurd (memory_side s m on (of_age q) c)
 
-      same_memory : (n : ℕ) → n ≤ k → (m j : ℕ) → OnSide S s (of_memory m) → wf.rank (of_memory m) < n → j ≤ t → memory_at S a m j ≡ memory_at S b m j
+      same_memory : (n : ℕ) → n ≤ k → (m j : ℕ) → OnSide S s (of_memory m) → wf.rank (of_memory m) < n → j ≤ t → memory_at S a m j
+          ≡ memory_at S b m j
       same_memory zero top m j on low l = absurd (omega (arith, low))
       same_memory (suc n) top m j on low l =
           memory_at-is S wf.rank wf.order a m j
           ∙ same_remembered S a b (memory_at S a) (memory_at S b) (slice_get S.memories m) j (λ i l'. same_time S a b i)
-          (λ i l' r c. read_same n (omega (arith, top)) m on low (λ q i' o below m'. same_memory n (omega (arith, top)) q i' o below m') i (omega (arith, l, l')) r c)
+          (λ i l' r c. read_same n (omega (arith, top)) m on low (λ q i' o below m'. same_memory n (omega (arith, top)) q i' o below m') i
+          (omega (arith, l, l')) r c)
           ∙ sym (memory_at-is S wf.rank wf.order b m j)
 
       pub look_same : (r : Read) → OnSide S s r → (IsTrue (is_current r) → wf.rank r < k) → Same (look S a t) (look S b t) r
@@ -119,8 +124,10 @@ module _ (S : Tables) (wf : IsWellFormed S) where
   linked a t m (Hyst name side e lo hi start) there =
       let same = same_value (at_scan S a (memory_at S a) t) (look S a t) e (λ r k. ageless side a t r (wf.memories_read m _ r there k)) in
       let is = memory_at-is S wf.rank wf.order a m t ∙ ap (λ o. remembered S a (memory_at S a) o t) there in (
-        (λ up. is ∙ hyst_up (begun S a t) lo hi start (λ j. value (at_scan S a (memory_at S a) j) e) t (begun_low S a t) (ap (int_le hi) same ∙ up)),
-        (λ down. is ∙ hyst_down (begun S a t) lo hi start (λ j. value (at_scan S a (memory_at S a) j) e) t (begun_low S a t) (wf.sound m _ there) (ap (λ z. int_le z lo) same ∙ down)),
+        (λ up. is ∙ hyst_up (begun S a t) lo hi start (λ j. value (at_scan S a (memory_at S a) j) e) t (begun_low S a t)
+            (ap (int_le hi) same ∙ up)),
+        (λ down. is ∙ hyst_down (begun S a t) lo hi start (λ j. value (at_scan S a (memory_at S a) j) e) t (begun_low S a t)
+            (wf.sound m _ there) (ap (λ z. int_le z lo) same ∙ down)),
       )
 
   range_before : (a : Reading) (t : ℕ) → ((j x : ℕ) (v : Var) → j ≤ t → slice_get S.vars x ≡ Some v → IsWithin v.range (a j x))

@@ -1,5 +1,6 @@
 -- Along every reading each memory makes its move at each scan, and no other.
-use Rattle.std.proofs.Common.{◌≡◌, ◌∙◌, sym, ap, subst, refl, ℕ, zero, suc, ℤ, pos, negsuc, ◌≤ℤ◌, ◌<ℤ◌, Bool, true, false, cond, List, Some, slice_get, arith, ⊎_elim}
+use Rattle.std.proofs.Common.{◌≡◌, ◌∙◌, sym, ap, subst, refl, ℕ, zero, suc, ℤ, pos, negsuc, ◌≤ℤ◌, ◌<ℤ◌, Bool, true, false, cond, List, Some}
+use Rattle.std.proofs.Common.{slice_get, arith, ⊎_elim}
 use Rattle.std.specs.Prelude.{int_le}
 use Rattle.std.specs.Ordering.{int_eq}
 use Rattle.std.proofs.lemmas.Int.{ints}
@@ -40,7 +41,8 @@ goes_on_by elapsed hold (pos n) true low high up = grind (arith, ints)
 goes_on_by elapsed hold (negsuc zero) true low high up = refl
 goes_on_by elapsed hold (negsuc (suc n)) true low high up = absurd (omega (arith, ints, low))
 
-goes_on_only : (elapsed hold before : ℤ) (b : Bool) (x : ℤ) → age_goes_on elapsed hold b before x ≡ true → x ≡ next_age hold elapsed before b
+goes_on_only : (elapsed hold before : ℤ) (b : Bool) (x : ℤ) → age_goes_on elapsed hold b before x ≡ true → x
+    ≡ next_age hold elapsed before b
 goes_on_only elapsed hold before false x h = grind (arith, ints)
 goes_on_only elapsed hold (pos n) true x h = grind (arith, ints)
 goes_on_only elapsed hold (negsuc zero) true x h = grind (arith, ints)
@@ -87,7 +89,8 @@ module _ (S : Tables) (wf : IsWellFormed S) (ρ : Reading) (m : ℕ) where
     old_later : (t : ℕ) → begins S ρ (suc t) ≡ false → old (suc t) ≡ next_age hold (elapsed S (ρ (suc t))) (old t) (condition (suc t))
     old_later t later =
         ap (λ from. age from (λ j. since S ρ j (suc t)) hold condition (suc t)) (begun_past S ρ t later)
-        ∙ age_next (begun S ρ t) hold (elapsed S (ρ (suc t))) low (elapsed_up S ρ wf.goes_on (suc t)) (λ j. since S ρ j t) (λ j. since S ρ j (suc t)) t (begun_low S ρ t)
+        ∙ age_next (begun S ρ t) hold (elapsed S (ρ (suc t))) low (elapsed_up S ρ wf.goes_on (suc t)) (λ j. since S ρ j t)
+        (λ j. since S ρ j (suc t)) t (begun_low S ρ t)
         (λ j l. since_up S ρ wf.goes_on j t) (λ j l. since_next S ρ wf.goes_on j t l) (since_none S ρ wf.goes_on (suc t)) condition
 
     -- the number that the age moves to
@@ -98,7 +101,8 @@ module _ (S : Tables) (wf : IsWellFormed S) (ρ : Reading) (m : ℕ) where
     old_is t = ⊎_elim
         (λ is. old_begins t is ∙ ap (λ anew. age_at anew t) (sym is))
         (λ is. let k = later S ρ t is in
-        subst (λ j. old j ≡ age_at false j) (sym k.1) (old_later k.0 (ap (begins S ρ) (sym k.1) ∙ is)) ∙ ap (λ anew. age_at anew t) (sym is))
+        subst (λ j. old j ≡ age_at false j) (sym k.1) (old_later k.0 (ap (begins S ρ) (sym k.1) ∙ is))
+        ∙ ap (λ anew. age_at anew t) (sym is))
         (cases_Bool (begins S ρ t))
 
     age_comes : (anew : Bool) (t : ℕ) → cond anew (age_begins (condition t) (age_at anew t))
@@ -124,7 +128,8 @@ module _ (S : Tables) (wf : IsWellFormed S) (ρ : Reading) (m : ℕ) where
     side_later : (t : ℕ) → begins S ρ (suc t) ≡ false → side (suc t) ≡ next_bit lo hi (side t) (term (suc t))
     side_later t is =
         let low = begun_low S ρ t in
-        ap (λ from. hyst from lo hi start term (suc t)) (begun_past S ρ t is) ∙ hyst_next lo hi start term (begun S ρ t) t (omega (arith, low))
+        ap (λ from. hyst from lo hi start term (suc t)) (begun_past S ρ t is)
+        ∙ hyst_next lo hi start term (begun S ρ t) t (omega (arith, low))
 
     side_is : (t : ℕ) → side t ≡ next_bit lo hi (bit_before t) (term t)
     side_is t = ⊎_elim
@@ -135,38 +140,49 @@ module _ (S : Tables) (wf : IsWellFormed S) (ρ : Reading) (m : ℕ) where
         ∙ ap (λ anew. next_bit lo hi (cond anew start (side (scan_before t))) (term t)) (sym is))
         (cases_Bool (begins S ρ t))
 
-  moves_held : (name : List ℕ) (s : Side) (c : Cond) (hold : ℤ) → slice_get S.memories m ≡ Some (Held name s c hold) → (t : ℕ) → MovesAt S ρ m (Held name s c hold) t
+  moves_held : (name : List ℕ) (s : Side) (c : Cond) (hold : ℤ) → slice_get S.memories m ≡ Some (Held name s c hold) → (t : ℕ)
+      → MovesAt S ρ m (Held name s c hold) t
   moves_held name s c hold is t =
       let low : pos 0 ≤ℤ hold = (wf.sound m (Held name s c hold) is).0 in
       let condition : ℕ → Bool = λ j. truth (at_scan S ρ (memory_at S ρ) j) c in
       let keeps : (j : ℕ) → kept S ρ j m ≡ old condition hold low j = λ j. ap (λ o. kept_of S ρ m o j) is in
-      let sees : truth (look S ρ t) c ≡ condition t = sym (same_truth (at_scan S ρ (memory_at S ρ) t) (look S ρ t) c (λ r k. ageless S wf s ρ t r (wf.memories_read m _ r is k))) in
-      let step : Bool → ℤ → ℤ → Bool = λ b before now. cond (begins S ρ t) (age_begins b now) (age_goes_on (elapsed S (ρ t)) hold b before now) in
+      let sees : truth (look S ρ t) c ≡ condition t = sym (same_truth (at_scan S ρ (memory_at S ρ) t) (look S ρ t) c
+      (λ r k. ageless S wf s ρ t r (wf.memories_read m _ r is k))) in
+      let step : Bool → ℤ → ℤ → Bool = λ b before now. cond (begins S ρ t) (age_begins b now)
+      (age_goes_on (elapsed S (ρ t)) hold b before now) in
       record {
         in_span = subst (IsWithin (negsuc 0, hold)) (sym (keeps t)) (old_span condition hold low t);
-        comes = (λ i. step (sees i) (keeps (scan_before t) i) ((keeps t ∙ old_is condition hold low t) i)) ∙ age_comes condition hold low (begins S ρ t) t;
-        alone = λ z may move. age_only condition hold low (begins S ρ t) t z ((λ i. step (sym sees i) (sym (keeps (scan_before t)) i) z) ∙ move)
+        comes = (λ i. step (sees i) (keeps (scan_before t) i) ((keeps t ∙ old_is condition hold low t) i))
+            ∙ age_comes condition hold low (begins S ρ t) t;
+        alone = λ z may move. age_only condition hold low (begins S ρ t) t z
+            ((λ i. step (sym sees i) (sym (keeps (scan_before t)) i) z) ∙ move)
             ∙ sym (keeps t ∙ old_is condition hold low t);
         tells = memory_at-is S wf.rank wf.order ρ m t ∙ ap (λ o. remembered S ρ (memory_at S ρ) o t) is
-            ∙ held_is (begun S ρ t) (λ j. since S ρ j t) hold condition t (since_falls S ρ wf.goes_on t) low ∙ ap (int_le hold) (sym (keeps t));
+            ∙ held_is (begun S ρ t) (λ j. since S ρ j t) hold condition t (since_falls S ρ wf.goes_on t) low
+            ∙ ap (int_le hold) (sym (keeps t));
       }
 
-  moves_hyst : (name : List ℕ) (s : Side) (e : Term) (lo hi : ℤ) (start : Bool) → slice_get S.memories m ≡ Some (Hyst name s e lo hi start) → (t : ℕ)
+  moves_hyst : (name : List ℕ) (s : Side) (e : Term) (lo hi : ℤ) (start : Bool) → slice_get S.memories m ≡ Some (Hyst name s e lo hi start)
+      → (t : ℕ)
       → MovesAt S ρ m (Hyst name s e lo hi start) t
   moves_hyst name s e lo hi start is t =
       let apart : lo <ℤ hi = wf.sound m (Hyst name s e lo hi start) is in
       let term : ℕ → ℤ = λ j. value (at_scan S ρ (memory_at S ρ) j) e in
-      let recalls : (j : ℕ) → memory_at S ρ m j ≡ side lo hi start term j = λ j. memory_at-is S wf.rank wf.order ρ m j ∙ ap (λ o. remembered S ρ (memory_at S ρ) o j) is in
+      let recalls : (j : ℕ) → memory_at S ρ m j ≡ side lo hi start term j = λ j. memory_at-is S wf.rank wf.order ρ m j
+      ∙ ap (λ o. remembered S ρ (memory_at S ρ) o j) is in
       let keeps : (j : ℕ) → kept S ρ j m ≡ number (memory_at S ρ m j) = λ j. ap (λ o. kept_of S ρ m o j) is in
-      let bit : (j : ℕ) → int_eq (kept S ρ j m) (pos 1) ≡ side lo hi start term j = λ j. ap (λ z. int_eq z (pos 1)) (keeps j) ∙ bit_back (memory_at S ρ m j) ∙ recalls j in
-      let sees : value (look S ρ t) e ≡ term t = sym (same_value (at_scan S ρ (memory_at S ρ) t) (look S ρ t) e (λ r k. ageless S wf s ρ t r (wf.memories_read m _ r is k))) in
+      let bit : (j : ℕ) → int_eq (kept S ρ j m) (pos 1) ≡ side lo hi start term j = λ j. ap (λ z. int_eq z (pos 1)) (keeps j)
+      ∙ bit_back (memory_at S ρ m j) ∙ recalls j in
+      let sees : value (look S ρ t) e ≡ term t = sym (same_value (at_scan S ρ (memory_at S ρ) t) (look S ρ t) e
+      (λ r k. ageless S wf s ρ t r (wf.memories_read m _ r is k))) in
       let step : ℤ → Bool → Bool → Bool = λ z before now. bit_goes_on lo hi z (cond (begins S ρ t) start before) now in
       let goes_on = bit_by lo hi (term t) (bit_before lo hi start term t) apart in
       record {
         in_span = subst (IsWithin (pos 0, pos 1)) (sym (keeps t)) (bit_span (memory_at S ρ m t));
         comes = (λ i. step (sees i) (bit (scan_before t) i) ((bit t ∙ side_is lo hi start term t) i)) ∙ goes_on;
         alone = λ z may move.
-            let same = bit_only lo hi (term t) (bit_before lo hi start term t) (int_eq z (pos 1)) (next_bit lo hi (bit_before lo hi start term t) (term t)) apart
+            let same = bit_only lo hi (term t) (bit_before lo hi start term t) (int_eq z (pos 1))
+            (next_bit lo hi (bit_before lo hi start term t) (term t)) apart
             ((λ i. step (sym sees i) (sym (bit (scan_before t)) i) (int_eq z (pos 1))) ∙ move) goes_on in
             bit_is z (memory_at S ρ m t) may (same ∙ sym (recalls t ∙ side_is lo hi start term t)) ∙ sym (keeps t);
         tells = sym (bit_back (memory_at S ρ m t)) ∙ ap (λ z. int_eq z (pos 1)) (sym (keeps t));

@@ -45,7 +45,8 @@ or_none : (b : Bool) → (b || false) ≡ b
 or_none true = refl
 or_none false = refl
 
-one_answer : (S : Tables) (section : Section) (V : View) (x : ℕ) (range : ℤ × ℤ) (cs : List Cell) → cells_of S section x ≡ cs → OneCell V cs range
+one_answer : (S : Tables) (section : Section) (V : View) (x : ℕ) (range : ℤ × ℤ) (cs : List Cell) → cells_of S section x ≡ cs
+    → OneCell V cs range
     → Answer S section V x range
 one_answer S section V x range cs are one =
     let says : (y : ℤ) → defined S section V x y ≡ int_eq y (value V one.cell.term) = λ y.
@@ -69,11 +70,13 @@ module _ (S : Tables) (wf : IsWellFormed S) where
         table = at.1;
         is = at.2;
         defines_it = at.3;
-        cells_are = cells_of-is S section x at.0 at.1 at.2.0 it (λ l a there for. S.sound.one_table section x l at.0 a at.1 there at.2.0 for it);
+        cells_are = cells_of-is S section x at.0 at.1 at.2.0 it (λ l a there for. S.sound.one_table section x l at.0 a at.1 there at.2.0 for
+            it);
       }
 
   -- views that agree on what the cells for it read define the same value
-  pub defined_same : (section : Section) (V W : View) (x : ℕ) (z : ℤ) (t : TableOf S section x) → AllSame V W (flat_map cell_reads (cells_for x t.table.grid))
+  pub defined_same : (section : Section) (V W : View) (x : ℕ) (z : ℤ) (t : TableOf S section x)
+      → AllSame V W (flat_map cell_reads (cells_for x t.table.grid))
       → defined S section V x z ≡ defined S section W x z
   defined_same section V W x z t same =
       ap (λ c. list_any (λ d. int_eq z (value V d.term)) (holding V c)) t.cells_are
@@ -91,8 +94,10 @@ module _ (S : Tables) (wf : IsWellFormed S) where
 
   module _ (s : Side) where
     -- a variable of the side is given or defined
-    pub given_or_defined : (x : ℕ) (v : Var) → IsVar S (side_kinds s) x v → IsVar S (given_kinds s) x v ⊎ IsVar S (defined_kinds (section_of s)) x v
-    given_or_defined x v is = ⊎_elim (λ g. inl (is.0, g)) (λ d. inr (is.0, d)) (or_cases (given_kinds s x v) (defined_kinds (section_of s) x v) is.1)
+    pub given_or_defined : (x : ℕ) (v : Var) → IsVar S (side_kinds s) x v → IsVar S (given_kinds s) x v
+        ⊎ IsVar S (defined_kinds (section_of s)) x v
+    given_or_defined x v is = ⊎_elim (λ g. inl (is.0, g)) (λ d. inr (is.0, d))
+        (or_cases (given_kinds s x v) (defined_kinds (section_of s) x v) is.1)
 
     -- and the other way round
     pub on_side : (x : ℕ) (v : Var) → IsVar S (defined_kinds (section_of s)) x v → IsVar S (side_kinds s) x v

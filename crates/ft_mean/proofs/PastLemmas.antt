@@ -1,5 +1,6 @@
 -- Timers and bands: they see the scans up to this one, and are linked to what they remember.
-use Rattle.std.proofs.Common.{◌≡◌, ◌∙◌, sym, ap, refl, ℕ, zero, suc, ◌+◌, ◌-◌, ◌<◌, ◌≤◌, ℤ, ◌<ℤ◌, Bool, true, false, cond, ◌&&◌, ◌||◌, List, [], ◌∷◌, ◌++◌, Some, None, arith, add-zero, ⊎_elim, true≢false}
+use Rattle.std.proofs.Common.{◌≡◌, ◌∙◌, sym, ap, refl, ℕ, zero, suc, ◌+◌, ◌-◌, ◌<◌, ◌≤◌, ℤ, ◌<ℤ◌, Bool, true, false, cond, ◌&&◌, ◌||◌, List}
+use Rattle.std.proofs.Common.{[], ◌∷◌, ◌++◌, Some, None, arith, add-zero, ⊎_elim, true≢false}
 use Rattle.std.specs.Prelude.{int_le, reverse}
 use Rattle.std.specs.List.{list_any, list_all, find, range_with_len}
 use Rattle.std.proofs.lemmas.Int.{ints}
@@ -49,7 +50,8 @@ band lo hi start e js = elim (find (λ j. int_le hi (e j) || int_le (e j) lo) js
 band_step : (lo hi : ℤ) (start : Bool) (e : ℕ → ℤ) (j : ℕ) (js : List ℕ)
     → band lo hi start e (j ∷ js) ≡ cond (int_le hi (e j) || int_le (e j) lo) (int_le hi (e j)) (band lo hi start e js)
 band_step lo hi start e j js = elim (int_le hi (e j) || int_le (e j) lo)
-    as (λ b. elim (cond b (Some j) (find (λ k. int_le hi (e k) || int_le (e k) lo) js)) as (λ o. Bool) [ None ↦ start | Some k ↦ int_le hi (e k) ]
+    as (λ b. elim (cond b (Some j) (find (λ k. int_le hi (e k) || int_le (e k) lo) js)) as (λ o. Bool)
+    [ None ↦ start | Some k ↦ int_le hi (e k) ]
     ≡ cond b (int_le hi (e j)) (band lo hi start e js)) [ true ↦ refl | false ↦ refl ]
 
 -- it goes back one scan at a time
@@ -67,7 +69,8 @@ same_band lo hi start p q a zero h = refl
 same_band lo hi start p q a (suc n) h =
     let here = h (a + n) (omega arith) (omega arith) in
     let more = same_band lo hi start p q a n (λ j low high. h j low (omega arith)) in
-    band_next lo hi start p a n ∙ (λ i. cond (int_le hi (here i) || int_le (here i) lo) (int_le hi (here i)) (more i)) ∙ sym (band_next lo hi start q a n)
+    band_next lo hi start p a n ∙ (λ i. cond (int_le hi (here i) || int_le (here i) lo) (int_le hi (here i)) (more i))
+    ∙ sym (band_next lo hi start q a n)
 
 -- a band sees the scans up to this one
 pub same_hyst : (from : ℕ) (lo hi : ℤ) (start : Bool) (p q : ℕ → ℤ) (t : ℕ) → ((j : ℕ) → j ≤ t → p j ≡ q j)
@@ -86,7 +89,8 @@ all_true : (p : ℕ → Bool) (a n j : ℕ) → list_all p (range_with_len a n) 
 all_true p a zero j e low high = absurd (omega arith)
 all_true p a (suc n) j e low high =
     let both = and_parts (p a) (list_all p (range_with_len (a + 1) n)) e in
-    ⊎_elim (λ same. ap p (sym same) ∙ both.0) (λ differs. all_true p (a + 1) n j both.1 (above a j low differs) (omega arith)) (cases_eq a j)
+    ⊎_elim (λ same. ap p (sym same) ∙ both.0) (λ differs. all_true p (a + 1) n j both.1 (above a j low differs) (omega arith))
+    (cases_eq a j)
   where
     above : (a j : ℕ) → a ≤ j → (a ≡ j → ⊥) → a + 1 ≤ j
     above a j low differs = ⊎_elim (λ less. omega (arith, less)) (λ most. absurd (differs (omega (arith, most)))) (cases_lt a j)
@@ -108,18 +112,21 @@ hyst_end from lo hi start e t low =
     let end = scans_end from t low in (
       band lo hi start e (reverse (range_with_len from end.0)),
       ap (λ k. band lo hi start e (reverse (range_with_len from k))) end.1 ∙ band_next lo hi start e from end.0
-          ∙ ap (λ k. cond (int_le hi (e k) || int_le (e k) lo) (int_le hi (e k)) (band lo hi start e (reverse (range_with_len from end.0)))) end.2,
+          ∙ ap (λ k. cond (int_le hi (e k) || int_le (e k) lo) (int_le hi (e k)) (band lo hi start e (reverse (range_with_len from end.0))))
+          end.2,
     )
 
 -- a band is true at its upper bound and false at its lower one
-pub hyst_up : (from : ℕ) (lo hi : ℤ) (start : Bool) (e : ℕ → ℤ) (t : ℕ) → from ≤ t → int_le hi (e t) ≡ true → hyst from lo hi start e t ≡ true
+pub hyst_up : (from : ℕ) (lo hi : ℤ) (start : Bool) (e : ℕ → ℤ) (t : ℕ) → from ≤ t → int_le hi (e t) ≡ true → hyst from lo hi start e t
+    ≡ true
 hyst_up from lo hi start e t low up =
     let end = hyst_end from lo hi start e t low in end.1 ∙ (λ i. cond (up i || int_le (e t) lo) (up i) end.0)
 
 not_up : (lo hi x : ℤ) → lo <ℤ hi → int_le x lo ≡ true → int_le hi x ≡ false
 not_up lo hi x below down = grind (arith, ints)
 
-pub hyst_down : (from : ℕ) (lo hi : ℤ) (start : Bool) (e : ℕ → ℤ) (t : ℕ) → from ≤ t → lo <ℤ hi → int_le (e t) lo ≡ true → hyst from lo hi start e t ≡ false
+pub hyst_down : (from : ℕ) (lo hi : ℤ) (start : Bool) (e : ℕ → ℤ) (t : ℕ) → from ≤ t → lo <ℤ hi → int_le (e t) lo ≡ true
+    → hyst from lo hi start e t ≡ false
 hyst_down from lo hi start e t low below down =
     let other = not_up lo hi (e t) below down in
     let end = hyst_end from lo hi start e t low in end.1 ∙ (λ i. cond (other i || down i) (other i) end.0)
@@ -138,4 +145,5 @@ module _ (lo hi : ℤ) (start : Bool) (e : ℕ → ℤ) where
   hyst_first t =
       let one : suc t - t ≡ 1 = omega arith in
       let last : t + 0 ≡ t = omega arith in
-      ap (λ k. band lo hi start e (reverse (range_with_len t k))) one ∙ band_next lo hi start e t 0 ∙ ap (λ k. next_bit lo hi start (e k)) last
+      ap (λ k. band lo hi start e (reverse (range_with_len t k))) one ∙ band_next lo hi start e t 0
+      ∙ ap (λ k. next_bit lo hi start (e k)) last

@@ -1,5 +1,6 @@
 -- Looking back over scans, one at a time.
-use Rattle.std.proofs.Common.{◌≡◌, ◌∙◌, sym, ap, subst, refl, ℕ, zero, suc, ◌+◌, ◌-◌, ◌<◌, ◌≤◌, ℤ, pos, Bool, true, false, cond, ◌&&◌, ◌||◌, List, [], ◌∷◌, ◌++◌, map, take, length, min, slice_index_or, arith, ⊎_elim, true≢false}
+use Rattle.std.proofs.Common.{◌≡◌, ◌∙◌, sym, ap, subst, refl, ℕ, zero, suc, ◌+◌, ◌-◌, ◌<◌, ◌≤◌, ℤ, pos, Bool, true, false, cond, ◌&&◌, ◌||◌}
+use Rattle.std.proofs.Common.{List, [], ◌∷◌, ◌++◌, map, take, length, min, slice_index_or, arith, ⊎_elim, true≢false}
 use Rattle.std.specs.Prelude.{int_le, unsigned_abs, slice_get, reverse}
 use Rattle.std.specs.List.{Contains, list_all, list_any, zip, range_with_len}
 use Rattle.ft_core.specs.declared.tables.Tables.{Tables}
@@ -17,11 +18,13 @@ use Rattle.ft_mean.proofs.PastLemmas.{range_more, band, band_next}
 
 module _ (p : ℕ → Bool) where
   -- one more scan at which it is true
-  pub all_next : (a k : ℕ) → a ≤ k → list_all p (range_with_len a (k - a)) ≡ true → p k ≡ true → list_all p (range_with_len a (k + 1 - a)) ≡ true
+  pub all_next : (a k : ℕ) → a ≤ k → list_all p (range_with_len a (k - a)) ≡ true → p k ≡ true → list_all p (range_with_len a (k + 1 - a))
+      ≡ true
   all_next a k low h here =
       let more : k + 1 - a ≡ suc (k - a) = omega (arith, low) in
       let last : a + (k - a) ≡ k = omega (arith, low) in
-      ap (λ n. list_all p (range_with_len a n)) more ∙ ap (list_all p) (range_more a (k - a)) ∙ list_all-append p (range_with_len a (k - a)) ((a + (k - a)) ∷ [])
+      ap (λ n. list_all p (range_with_len a n)) more ∙ ap (list_all p) (range_more a (k - a))
+      ∙ list_all-append p (range_with_len a (k - a)) ((a + (k - a)) ∷ [])
       ∙ (λ i. h i && ((ap p last ∙ here) i && true))
 
   -- one scan at which it is false
@@ -40,13 +43,16 @@ module _ (p : ℕ → Bool) where
   through_next k h here =
       let now : k - 0 ≡ k = omega arith in
       let more : k + 1 - 0 ≡ k + 1 = omega arith in
-      sym (ap (λ n. list_all p (range_with_len 0 n)) more) ∙ all_next 0 k (omega arith) (ap (λ n. list_all p (range_with_len 0 n)) now ∙ h) here
+      sym (ap (λ n. list_all p (range_with_len 0 n)) more) ∙ all_next 0 k (omega arith) (ap (λ n. list_all p (range_with_len 0 n)) now ∙ h)
+      here
 
-  pub none_next : (a k : ℕ) → a ≤ k → list_any p (range_with_len a (k - a)) ≡ false → p k ≡ false → list_any p (range_with_len a (k + 1 - a)) ≡ false
+  pub none_next : (a k : ℕ) → a ≤ k → list_any p (range_with_len a (k - a)) ≡ false → p k ≡ false
+      → list_any p (range_with_len a (k + 1 - a)) ≡ false
   none_next a k low h here =
       let more : k + 1 - a ≡ suc (k - a) = omega (arith, low) in
       let last : a + (k - a) ≡ k = omega (arith, low) in
-      ap (λ n. list_any p (range_with_len a n)) more ∙ ap (list_any p) (range_more a (k - a)) ∙ list_any-append p (range_with_len a (k - a)) ((a + (k - a)) ∷ [])
+      ap (λ n. list_any p (range_with_len a n)) more ∙ ap (list_any p) (range_more a (k - a))
+      ∙ list_any-append p (range_with_len a (k - a)) ((a + (k - a)) ∷ [])
       ∙ (λ i. h i || ((ap p last ∙ here) i || false))
 
   pub some_at : (a n k : ℕ) → a ≤ k → k < a + n → p k ≡ true → list_any p (range_with_len a n) ≡ true
@@ -82,16 +88,19 @@ module _ (lo hi : ℤ) (start : Bool) (e : ℕ → ℤ) (from k back : ℕ) (bel
   band_between up down = band_last ∙ (λ i. cond (up i || down i) (up i) rest)
 
 -- a list of what is made for each number goes on by one
-pub made_next : {A : Type 0} (f : ℕ → A) (made longer : List A) (k : ℕ) (item : A) → made ≡ map f (range_with_len 0 k) → item ≡ f k → longer ≡ made ++ item ∷ []
+pub made_next : {A : Type 0} (f : ℕ → A) (made longer : List A) (k : ℕ) (item : A) → made ≡ map f (range_with_len 0 k) → item ≡ f k → longer
+    ≡ made ++ item ∷ []
     → longer ≡ map f (range_with_len 0 (k + 1))
 made_next f made longer k item is here goes_on =
     let more : k + 1 ≡ suc k = omega arith in
     let last : 0 + k ≡ k = omega arith in
-    goes_on ∙ (λ i. is i ++ here i ∷ []) ∙ sym (ap (λ n. map f (range_with_len 0 n)) more ∙ ap (map f) (range_more 0 k) ∙ map-append f (range_with_len 0 k) ((0 + k) ∷ []) ∙ ap (λ n. map f (range_with_len 0 k) ++ f n ∷ []) last)
+    goes_on ∙ (λ i. is i ++ here i ∷ []) ∙ sym (ap (λ n. map f (range_with_len 0 n)) more ∙ ap (map f) (range_more 0 k)
+    ∙ map-append f (range_with_len 0 k) ((0 + k) ∷ []) ∙ ap (λ n. map f (range_with_len 0 k) ++ f n ∷ []) last)
 
 -- one more round
 pub round_next : (S : Tables) (ρ : Reading) (start seen : Seen) (k : ℕ) (bits : List (List Bool)) → seen ≡ after_rounds S ρ k start
-    → bits ≡ map (recalled_at S ρ seen) (range_with_len 0 (length seen.rows)) → record { rows = seen.rows; past = seen.past; bits = bits } ≡ after_rounds S ρ (k + 1) start
+    → bits ≡ map (recalled_at S ρ seen) (range_with_len 0 (length seen.rows)) → record { rows = seen.rows; past = seen.past; bits = bits }
+    ≡ after_rounds S ρ (k + 1) start
 round_next S ρ start seen k bits is here =
     let more : k + 1 ≡ suc k = omega arith in
     (λ i. record { rows = seen.rows; past = seen.past; bits = here i })
@@ -105,8 +114,10 @@ safe_again before after safe rows past t = let s = safe t in record {
   vars = s.vars;
   memories = s.memories;
   keeps = record {
-    now = λ x. subst (λ scans. unsigned_abs (slice_index_or (slice_index_or scans t []) x (pos 0)) ≤ var_size (slice_get s.vars x)) (sym rows) (s.keeps.now x);
-    before = λ x. subst (λ scans. unsigned_abs (slice_index_or (slice_index_or scans t []) x (pos 0)) ≤ var_size (slice_get s.vars x)) (sym past) (s.keeps.before x);
+    now = λ x. subst (λ scans. unsigned_abs (slice_index_or (slice_index_or scans t []) x (pos 0)) ≤ var_size (slice_get s.vars x))
+        (sym rows) (s.keeps.now x);
+    before = λ x. subst (λ scans. unsigned_abs (slice_index_or (slice_index_or scans t []) x (pos 0)) ≤ var_size (slice_get s.vars x))
+        (sym past) (s.keeps.before x);
     age = s.keeps.age;
   };
   small = s.small;
@@ -122,19 +133,22 @@ module _ (S : Tables) (ρ : Reading) (start : Seen) where
   past_kept zero = refl
   past_kept (suc k) = past_kept k
 
-  pub safe_after : {test : List Var → List Memory → Bool} (k : ℕ) → ((t : ℕ) → IsSafeBy (view_at start t) test) → (t : ℕ) → IsSafeBy (view_at (after_rounds S ρ k start) t) test
+  pub safe_after : {test : List Var → List Memory → Bool} (k : ℕ) → ((t : ℕ) → IsSafeBy (view_at start t) test) → (t : ℕ)
+      → IsSafeBy (view_at (after_rounds S ρ k start) t) test
   safe_after k h = safe_again start (after_rounds S ρ k start) h (rows_kept k) (past_kept k)
 
   pub rounds_join : (m n : ℕ) → after_rounds S ρ m (after_rounds S ρ n start) ≡ after_rounds S ρ (m + n) start
   rounds_join zero n = let none : n ≡ 0 + n = omega arith in ap (λ k. after_rounds S ρ k start) none
   rounds_join (suc m) n =
       let more : suc (m + n) ≡ suc m + n = omega arith in
-      ap (λ (p : Seen). record { rows = p.rows; past = p.past; bits = map (recalled_at S ρ p) (range_with_len 0 (length p.rows)) }) (rounds_join m n)
+      ap (λ (p : Seen). record { rows = p.rows; past = p.past; bits = map (recalled_at S ρ p) (range_with_len 0 (length p.rows)) })
+      (rounds_join m n)
       ∙ ap (λ k. after_rounds S ρ k start) more
 
 -- two lists, side by side
 module _ {A B : Type 0} (p : A × B → Bool) where
-  pub pair_next : (xs : List A) (ys : List B) (k : ℕ) (x : A) (y : B) → k < length xs → k < length ys → slice_index_or xs k x ≡ x → slice_index_or ys k y ≡ y
+  pub pair_next : (xs : List A) (ys : List B) (k : ℕ) (x : A) (y : B) → k < length xs → k < length ys → slice_index_or xs k x ≡ x
+      → slice_index_or ys k y ≡ y
       → list_any p (take k (zip xs ys)) ≡ false → false ≡ p (x, y) → list_any p (take (suc k) (zip xs ys)) ≡ false
   pair_next [] ys k x y lx ly ex ey past here = refl
   pair_next (a ∷ xs) [] k x y lx ly ex ey past here = refl
@@ -147,7 +161,8 @@ module _ {A B : Type 0} (p : A × B → Bool) where
       or_parts true e = absurd (true≢false e)
       or_parts false e = (refl, e)
 
-  pub pair_at : (xs : List A) (ys : List B) (k : ℕ) (x : A) (y : B) → k < length xs → k < length ys → slice_index_or xs k x ≡ x → slice_index_or ys k y ≡ y
+  pub pair_at : (xs : List A) (ys : List B) (k : ℕ) (x : A) (y : B) → k < length xs → k < length ys → slice_index_or xs k x ≡ x
+      → slice_index_or ys k y ≡ y
       → true ≡ p (x, y) → list_any p (zip xs ys) ≡ true
   pair_at [] ys k x y lx ly ex ey here = absurd (omega (arith, lx))
   pair_at (a ∷ xs) [] k x y lx ly ex ey here = absurd (omega (arith, ly))
@@ -155,7 +170,8 @@ module _ {A B : Type 0} (p : A × B → Bool) where
   pair_at (a ∷ xs) (b ∷ ys) (suc k) x y lx ly ex ey here =
       or_right (p (a, b)) (list_any p (zip xs ys)) (pair_at xs ys k x y (omega (arith, lx)) (omega (arith, ly)) ex ey here)
 
-  pub pair_end : (xs : List A) (ys : List B) (k : ℕ) → min (length xs) (length ys) ≤ k → list_any p (take k (zip xs ys)) ≡ false → list_any p (zip xs ys) ≡ false
+  pub pair_end : (xs : List A) (ys : List B) (k : ℕ) → min (length xs) (length ys) ≤ k → list_any p (take k (zip xs ys)) ≡ false
+      → list_any p (zip xs ys) ≡ false
   pair_end [] ys k low h = refl
   pair_end (a ∷ xs) [] k low h = refl
   pair_end (a ∷ xs) (b ∷ ys) zero low h = absurd (omega (arith, low))

@@ -3,7 +3,8 @@ use Rattle.std.proofs.Common.{◌∙◌, ap, cond, [], length, slice_index_or, p
 use Rattle.std.proofs.lemmas.List.{get_or_append_left}
 use Rattle.ft_core.specs.meaning.Kinds.{place_of, is_of}
 use Rattle.ft_mean.specs.meaning.Reading.{init_of}
-use Rattle.ft_mean.specs.laws.RowLaws.{PlacesAreInside, PlacesAreTaken, SameRows, ReadAtPlace, ReadInRange, ReadInFront, HasRows, GivenOrDefined}
+use Rattle.ft_mean.specs.laws.RowLaws.{PlacesAreInside, PlacesAreTaken, SameRows, ReadAtPlace, ReadInRange, ReadInFront, HasRows}
+use Rattle.ft_mean.specs.laws.RowLaws.{GivenOrDefined}
 use Rattle.ft_mean.proofs.OneScan.{given_or_defined}
 use Rattle.ft_core.specs.laws.VarPlaces.{below-count}
 use Rattle.ft_mean.proofs.Rows.{placed, same_rows, length-gathered}
@@ -29,7 +30,8 @@ in_range S = reading_range S (opened S)
 
 pub in_front : ReadInFront
 in_front S kinds front rest t x below =
-    ap (λ row. cond (is_of S.vars kinds x) (slice_index_or row (place_of kinds S.vars x) (pos 0)) (init_of S x)) (get_or_append_left front rest [] t below)
+    ap (λ row. cond (is_of S.vars kinds x) (slice_index_or row (place_of kinds S.vars x) (pos 0)) (init_of S x))
+    (get_or_append_left front rest [] t below)
 
 pub has_rows : HasRows
 has_rows S kinds ρ n = (

@@ -1,5 +1,6 @@
 -- What is computed at a view that keeps the sizes of a set is small, and so are its parts.
-use Rattle.std.proofs.Common.{◌≡◌, ◌∙◌, sym, ap, subst, ℕ, ◌*◌, ◌≤◌, ℤ, pos, ◌<ℤ◌, ◌+ℤ◌, ◌-ℤ◌, ◌*ℤ◌, neg_ℤ, Bool, true, false, not, ◌&&◌, ◌||◌, List, arith}
+use Rattle.std.proofs.Common.{◌≡◌, ◌∙◌, sym, ap, subst, ℕ, ◌*◌, ◌≤◌, ℤ, pos, ◌<ℤ◌, ◌+ℤ◌, ◌-ℤ◌, ◌*ℤ◌, neg_ℤ, Bool, true, false, not, ◌&&◌}
+use Rattle.std.proofs.Common.{◌||◌, List, arith}
 use Rattle.std.specs.Prelude.{IsTrue, unsigned_abs, nat_le, int_le}
 use Rattle.std.proofs.lemmas.Int.{ints, unsigned_abs-mul}
 use Rattle.std.proofs.lemmas.Bool.{and_parts}
@@ -14,9 +15,12 @@ use Rattle.ft_core.specs.declared.term.Cond.{Cond}
 use Rattle.ft_core.specs.declared.term.Cond.TheVariants.{Compare, Not, And, Or}
 use Rattle.ft_core.specs.checked.Size.{size_of, is_sized_term, is_sized}
 use Rattle.ft_core.specs.laws.Equations.{term_induction}
-use Rattle.ft_core.specs.laws.SizeEquations.{size-Num, size-Now, size-Prev, size-Age, size-Neg, size-Add, size-Sub, size-Times, size-Div, small-Num, small-Now, small-Prev, small-Age, small-Neg, small-Add, small-Sub, small-Times, small-Div, sized-Compare, sized-Not, sized-And, sized-Or}
+use Rattle.ft_core.specs.laws.SizeEquations.{size-Num, size-Now, size-Prev, size-Age, size-Neg, size-Add, size-Sub, size-Times, size-Div}
+use Rattle.ft_core.specs.laws.SizeEquations.{small-Num, small-Now, small-Prev, small-Age, small-Neg, small-Add, small-Sub, small-Times}
+use Rattle.ft_core.specs.laws.SizeEquations.{small-Div, sized-Compare, sized-Not, sized-And, sized-Or}
 use Rattle.ft_mean.specs.meaning.Value.{View, value, truth, compares}
-use Rattle.ft_mean.proofs.Agree.{value-Num, value-Now, value-Prev, value-Age, value-Neg, value-Add, value-Sub, value-Times, value-Div, truth-Compare, truth-Not, truth-And, truth-Or}
+use Rattle.ft_mean.proofs.Agree.{value-Num, value-Now, value-Prev, value-Age, value-Neg, value-Add, value-Sub, value-Times, value-Div}
+use Rattle.ft_mean.proofs.Agree.{truth-Compare, truth-Not, truth-And, truth-Or}
 use Rattle.ft_mean.specs.judge.Safe.{KeepsSizes, IsSafeBy, IsSafe, IsSafeCond}
 use Rattle.ft_mean.proofs.BoundLemmas.{abs-neg, abs-add, abs-sub, abs-div}
 
@@ -24,27 +28,32 @@ module _ (vars : List Var) (memories : List Memory) where
   small_neg : (e : Term) → IsTrue (is_sized_term vars memories (Neg e)) → IsTrue (is_sized_term vars memories e)
   small_neg e h = (and_parts (is_sized_term vars memories e) _ (sym (small-Neg vars memories e) ∙ h)).0
 
-  small_add : (a b : Term) → IsTrue (is_sized_term vars memories (Add a b)) → IsTrue (is_sized_term vars memories a) × IsTrue (is_sized_term vars memories b)
+  small_add : (a b : Term) → IsTrue (is_sized_term vars memories (Add a b)) → IsTrue (is_sized_term vars memories a)
+      × IsTrue (is_sized_term vars memories b)
   small_add a b h = and_parts (is_sized_term vars memories a) (is_sized_term vars memories b)
       (and_parts (is_sized_term vars memories a && is_sized_term vars memories b) _ (sym (small-Add vars memories a b) ∙ h)).0
 
-  small_sub : (a b : Term) → IsTrue (is_sized_term vars memories (Sub a b)) → IsTrue (is_sized_term vars memories a) × IsTrue (is_sized_term vars memories b)
+  small_sub : (a b : Term) → IsTrue (is_sized_term vars memories (Sub a b)) → IsTrue (is_sized_term vars memories a)
+      × IsTrue (is_sized_term vars memories b)
   small_sub a b h = and_parts (is_sized_term vars memories a) (is_sized_term vars memories b)
       (and_parts (is_sized_term vars memories a && is_sized_term vars memories b) _ (sym (small-Sub vars memories a b) ∙ h)).0
 
   small_times : (c : ℤ) (e : Term) → IsTrue (is_sized_term vars memories (Times c e)) → IsTrue (is_sized_term vars memories e)
   small_times c e h = (and_parts (is_sized_term vars memories e) _ (sym (small-Times vars memories c e) ∙ h)).0
 
-  small_div : (e : Term) (k : ℤ) → IsTrue (is_sized_term vars memories (Div e k)) → IsTrue (is_sized_term vars memories e) × IsTrue (int_le (pos 1) k)
+  small_div : (e : Term) (k : ℤ) → IsTrue (is_sized_term vars memories (Div e k)) → IsTrue (is_sized_term vars memories e)
+      × IsTrue (int_le (pos 1) k)
   small_div e k h = and_parts (is_sized_term vars memories e) (int_le (pos 1) k)
       (and_parts (is_sized_term vars memories e && int_le (pos 1) k) (int_le k (pos 1000000))
-      (and_parts (is_sized_term vars memories e && int_le (pos 1) k && int_le k (pos 1000000)) _ (sym (small-Div vars memories e k) ∙ h)).0).0
+      (and_parts (is_sized_term vars memories e && int_le (pos 1) k && int_le k (pos 1000000)) _
+      (sym (small-Div vars memories e k) ∙ h)).0).0
 
   module _ (V : View) (keeps : KeepsSizes vars memories V) where
     abbrev IsBelow : Term → Type 0
     IsBelow e = IsTrue (is_sized_term vars memories e) → unsigned_abs (value V e) ≤ size_of vars memories e
 
-    at_size : (e : Term) (z : ℤ) (n : ℕ) → value V e ≡ z → size_of vars memories e ≡ n → unsigned_abs z ≤ n → unsigned_abs (value V e) ≤ size_of vars memories e
+    at_size : (e : Term) (z : ℤ) (n : ℕ) → value V e ≡ z → size_of vars memories e ≡ n → unsigned_abs z ≤ n
+        → unsigned_abs (value V e) ≤ size_of vars memories e
     at_size e z n is size below = subst (λ m. unsigned_abs (value V e) ≤ m) (sym size) (subst (λ y. unsigned_abs y ≤ n) (sym is) below)
 
     -- no value of a term is beyond its size
@@ -61,7 +70,8 @@ module _ (vars : List Var) (memories : List Memory) where
       less = λ a b p q h. let s = small_sub a b h in
           at_size (Sub a b) _ _ (value-Sub V a b) (size-Sub vars memories a b) (abs-sub (value V a) (value V b) _ _ (p s.0) (q s.1));
       scaled = λ c e p h. at_size (Times c e) _ _ (value-Times V c e) (size-Times vars memories c e)
-          (subst (λ n. n ≤ unsigned_abs c * size_of vars memories e) (sym (unsigned_abs-mul c (value V e))) (mul-le-mul_left (unsigned_abs c) (p (small_times c e h))));
+          (subst (λ n. n ≤ unsigned_abs c * size_of vars memories e) (sym (unsigned_abs-mul c (value V e)))
+          (mul-le-mul_left (unsigned_abs c) (p (small_times c e h))));
       divided = λ e k p h. let s = small_div e k h in let low = abs-div (value V e) k s.1 in let high = p s.0 in
           at_size (Div e k) _ _ (value-Div V e k) (size-Div vars memories e k) (omega (arith, low, high));
     })
@@ -96,7 +106,8 @@ module _ (V : View) where
       omega (arith, below, top)
 
   -- what is safe by one test is safe by another that follows from it
-  pub safe_by : {test other : List Var → List Memory → Bool} → ((vars : List Var) (memories : List Memory) → IsTrue (test vars memories) → IsTrue (other vars memories))
+  pub safe_by : {test other : List Var → List Memory → Bool} → ((vars : List Var) (memories : List Memory) → IsTrue (test vars memories)
+      → IsTrue (other vars memories))
       → IsSafeBy V test → IsSafeBy V other
   safe_by h s = record { vars = s.vars; memories = s.memories; keeps = s.keeps; small = h s.vars s.memories s.small }
 
@@ -131,7 +142,8 @@ module _ (V : View) where
   safe_left r a b = safe_by (λ vs ms h. (and_parts (is_sized_term vs ms a) (is_sized_term vs ms b) (sym (sized-Compare vs ms r a b) ∙ h)).0)
 
   pub safe_right : (r : Rel) (a b : Term) → IsSafeCond V (Compare r a b) → IsSafe V b
-  safe_right r a b = safe_by (λ vs ms h. (and_parts (is_sized_term vs ms a) (is_sized_term vs ms b) (sym (sized-Compare vs ms r a b) ∙ h)).1)
+  safe_right r a b = safe_by (λ vs ms h. (and_parts (is_sized_term vs ms a) (is_sized_term vs ms b)
+      (sym (sized-Compare vs ms r a b) ∙ h)).1)
 
   pub safe_not : (a : Cond) → IsSafeCond V (Not a) → IsSafeCond V a
   safe_not a = safe_by (λ vs ms h. sym (sized-Not vs ms a) ∙ h)
@@ -152,19 +164,24 @@ module _ (V : View) where
   pub part_small : (e part : Term) (z : ℤ) → part ≡ e → z ≡ value V part → IsSafe V e → unsigned_abs z ≤ 1000000000000000
   part_small e part z is value_is s = subst (λ y. unsigned_abs y ≤ 1000000000000000) (sym (value_is ∙ ap (value V) is)) (safe_small e s)
 
-  pub product_small : (c : ℤ) (e part : Term) (z : ℤ) → part ≡ e → z ≡ value V part → IsSafe V (Times c e) → unsigned_abs (c *ℤ z) ≤ 1000000000000000
+  pub product_small : (c : ℤ) (e part : Term) (z : ℤ) → part ≡ e → z ≡ value V part → IsSafe V (Times c e)
+      → unsigned_abs (c *ℤ z) ≤ 1000000000000000
   product_small c e part z is value_is s =
-      subst (λ y. unsigned_abs y ≤ 1000000000000000) (value-Times V c e ∙ ap (λ y. c *ℤ y) (sym (value_is ∙ ap (value V) is))) (safe_small (Times c e) s)
+      subst (λ y. unsigned_abs y ≤ 1000000000000000) (value-Times V c e ∙ ap (λ y. c *ℤ y) (sym (value_is ∙ ap (value V) is)))
+      (safe_small (Times c e) s)
 
   pub neg_value : (term e part : Term) (z r : ℤ) → term ≡ Neg e → part ≡ e → z ≡ value V part → r ≡ neg_ℤ z → r ≡ value V term
-  neg_value term e part z r whole is value_is result = result ∙ ap neg_ℤ (value_is ∙ ap (value V) is) ∙ sym (value-Neg V e) ∙ ap (value V) (sym whole)
+  neg_value term e part z r whole is value_is result = result ∙ ap neg_ℤ (value_is ∙ ap (value V) is) ∙ sym (value-Neg V e)
+      ∙ ap (value V) (sym whole)
 
-  pub add_value : (term a b left right : Term) (y z r : ℤ) → term ≡ Add a b → left ≡ a → right ≡ b → y ≡ value V left → z ≡ value V right → r ≡ (y +ℤ z) → r ≡ value V term
+  pub add_value : (term a b left right : Term) (y z r : ℤ) → term ≡ Add a b → left ≡ a → right ≡ b → y ≡ value V left → z ≡ value V right
+      → r ≡ (y +ℤ z) → r ≡ value V term
   add_value term a b left right y z r whole is_left is_right left_value right_value result =
       let l = left_value ∙ ap (value V) is_left in let m = right_value ∙ ap (value V) is_right in
       result ∙ (λ i. l i +ℤ m i) ∙ sym (value-Add V a b) ∙ ap (value V) (sym whole)
 
-  pub sub_value : (term a b left right : Term) (y z r : ℤ) → term ≡ Sub a b → left ≡ a → right ≡ b → y ≡ value V left → z ≡ value V right → r ≡ (y -ℤ z) → r ≡ value V term
+  pub sub_value : (term a b left right : Term) (y z r : ℤ) → term ≡ Sub a b → left ≡ a → right ≡ b → y ≡ value V left → z ≡ value V right
+      → r ≡ (y -ℤ z) → r ≡ value V term
   sub_value term a b left right y z r whole is_left is_right left_value right_value result =
       let l = left_value ∙ ap (value V) is_left in let m = right_value ∙ ap (value V) is_right in
       result ∙ (λ i. l i -ℤ m i) ∙ sym (value-Sub V a b) ∙ ap (value V) (sym whole)
@@ -177,23 +194,31 @@ module _ (V : View) where
   div_value term e part k z r whole is value_is result =
       result ∙ ap (λ y. floor_of y k) (value_is ∙ ap (value V) is) ∙ sym (value-Div V e k) ∙ ap (value V) (sym whole)
 
-  pub compare_truth : (c : Cond) (r : Rel) (a b : Term) (y z : ℤ) (t : Bool) → c ≡ Compare r a b → y ≡ value V a → z ≡ value V b → t ≡ compares r y z → t ≡ truth V c
-  compare_truth c r a b y z t whole left right result = result ∙ (λ i. compares r (left i) (right i)) ∙ sym (truth-Compare V r a b) ∙ ap (truth V) (sym whole)
+  pub compare_truth : (c : Cond) (r : Rel) (a b : Term) (y z : ℤ) (t : Bool) → c ≡ Compare r a b → y ≡ value V a → z ≡ value V b → t
+      ≡ compares r y z → t ≡ truth V c
+  compare_truth c r a b y z t whole left right result = result ∙ (λ i. compares r (left i) (right i)) ∙ sym (truth-Compare V r a b)
+      ∙ ap (truth V) (sym whole)
 
   pub not_truth : (c a part : Cond) (t : Bool) → c ≡ Not a → part ≡ a → t ≡ truth V part → not t ≡ truth V c
   not_truth c a part t whole is result = ap not (result ∙ ap (truth V) is) ∙ sym (truth-Not V a) ∙ ap (truth V) (sym whole)
 
   -- where the left part is true, both are as the right one; where it is false, they are false
-  pub and_truth : (c a b left right : Cond) (t u : Bool) → c ≡ And a b → left ≡ a → right ≡ b → t ≡ truth V left → t ≡ true → u ≡ truth V right → u ≡ truth V c
+  pub and_truth : (c a b left right : Cond) (t u : Bool) → c ≡ And a b → left ≡ a → right ≡ b → t ≡ truth V left → t ≡ true → u
+      ≡ truth V right → u ≡ truth V c
   and_truth c a b left right t u whole is_left is_right first is_true second =
-      second ∙ ap (truth V) is_right ∙ ap (λ p. p && truth V b) (sym is_true ∙ first ∙ ap (truth V) is_left) ∙ sym (truth-And V a b) ∙ ap (truth V) (sym whole)
+      second ∙ ap (truth V) is_right ∙ ap (λ p. p && truth V b) (sym is_true ∙ first ∙ ap (truth V) is_left) ∙ sym (truth-And V a b)
+      ∙ ap (truth V) (sym whole)
 
   pub and_false : (c a b left : Cond) (t : Bool) → c ≡ And a b → left ≡ a → t ≡ truth V left → t ≡ false → false ≡ truth V c
-  and_false c a b left t whole is_left first is_false = ap (λ p. p && truth V b) (sym is_false ∙ first ∙ ap (truth V) is_left) ∙ sym (truth-And V a b) ∙ ap (truth V) (sym whole)
+  and_false c a b left t whole is_left first is_false = ap (λ p. p && truth V b) (sym is_false ∙ first ∙ ap (truth V) is_left)
+      ∙ sym (truth-And V a b) ∙ ap (truth V) (sym whole)
 
-  pub or_truth : (c a b left right : Cond) (t u : Bool) → c ≡ Or a b → left ≡ a → right ≡ b → t ≡ truth V left → t ≡ false → u ≡ truth V right → u ≡ truth V c
+  pub or_truth : (c a b left right : Cond) (t u : Bool) → c ≡ Or a b → left ≡ a → right ≡ b → t ≡ truth V left → t ≡ false → u
+      ≡ truth V right → u ≡ truth V c
   or_truth c a b left right t u whole is_left is_right first is_false second =
-      second ∙ ap (truth V) is_right ∙ ap (λ p. p || truth V b) (sym is_false ∙ first ∙ ap (truth V) is_left) ∙ sym (truth-Or V a b) ∙ ap (truth V) (sym whole)
+      second ∙ ap (truth V) is_right ∙ ap (λ p. p || truth V b) (sym is_false ∙ first ∙ ap (truth V) is_left) ∙ sym (truth-Or V a b)
+      ∙ ap (truth V) (sym whole)
 
   pub or_true : (c a b left : Cond) (t : Bool) → c ≡ Or a b → left ≡ a → t ≡ truth V left → t ≡ true → true ≡ truth V c
-  or_true c a b left t whole is_left first is_true = ap (λ p. p || truth V b) (sym is_true ∙ first ∙ ap (truth V) is_left) ∙ sym (truth-Or V a b) ∙ ap (truth V) (sym whole)
+  or_true c a b left t whole is_left first is_true = ap (λ p. p || truth V b) (sym is_true ∙ first ∙ ap (truth V) is_left)
+      ∙ sym (truth-Or V a b) ∙ ap (truth V) (sym whole)

@@ -7,7 +7,8 @@ use Rattle.ft_core.specs.declared.tables.Var.{Var}
 use Rattle.ft_core.specs.declared.tables.VarKind.{VarKind}
 use Rattle.ft_core.specs.declared.tables.VarKind.TheVariants as kind
 use Rattle.ft_core.specs.declared.tables.Side.TheVariants as side
-use Rattle.ft_core.specs.meaning.Kinds.{Kinds, same_kind, of_kind, monitored, controlled, inputs, outputs, requirement, design, side_kinds, is_of}
+use Rattle.ft_core.specs.meaning.Kinds.{Kinds, same_kind, of_kind, monitored, controlled, inputs, outputs, requirement, design, side_kinds}
+use Rattle.ft_core.specs.meaning.Kinds.{is_of}
 use Rattle.ft_mean.specs.meaning.Reading.{IsVar}
 use Rattle.ft_mean.proofs.WellFormed.{IsOf, of_test}
 

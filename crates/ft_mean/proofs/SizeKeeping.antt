@@ -1,5 +1,6 @@
 -- Values in range and ages in their spans keep the sizes of their set; what a checked set is made of is small.
-use Rattle.std.proofs.Common.{◌≡◌, ◌∙◌, sym, ap, subst, refl, ℕ, zero, suc, ◌≤◌, max, cond, ℤ, pos, negsuc, Bool, true, false, List, [], ◌∷◌, ◌++◌, slice_get, Option, Some, None, arith}
+use Rattle.std.proofs.Common.{◌≡◌, ◌∙◌, sym, ap, subst, refl, ℕ, zero, suc, ◌≤◌, max, cond, ℤ, pos, negsuc, Bool, true, false, List, []}
+use Rattle.std.proofs.Common.{◌∷◌, ◌++◌, slice_get, Option, Some, None, arith}
 use Rattle.std.specs.Prelude.{unsigned_abs}
 use Rattle.std.specs.List.{list_all}
 use Rattle.std.proofs.lemmas.Int.{ints}
@@ -17,7 +18,8 @@ use Rattle.ft_core.specs.checked.Size.{var_size, age_size, is_sized, is_sized_gr
 use Rattle.ft_mean.specs.meaning.Memory.{kept, kept_of}
 use Rattle.ft_mean.specs.laws.Moves.{span_of}
 use Rattle.ft_mean.specs.meaning.Reading.{Reading, before, begins, init_of, scan_before}
-use Rattle.ft_mean.specs.laws.SafetyLaws.{AreValuesOf, AreAgesOf, ViewsKeepSizes, LooksKeepSizes, ListsTellValues, ClausesAreSafe, TablesAreSafe, MemoriesAreSafe, SafeByLess}
+use Rattle.ft_mean.specs.laws.SafetyLaws.{AreValuesOf, AreAgesOf, ViewsKeepSizes, LooksKeepSizes, ListsTellValues, ClausesAreSafe}
+use Rattle.ft_mean.specs.laws.SafetyLaws.{TablesAreSafe, MemoriesAreSafe, SafeByLess}
 use Rattle.ft_mean.proofs.MovesLaw.{memories_move}
 use Rattle.ft_mean.proofs.SafeLemmas.{safe_by}
 use Rattle.ft_mean.proofs.SideLemmas.{of_none}
@@ -27,7 +29,8 @@ use Rattle.ft_mean.proofs.WellFormed.{opened}
 within_size : (range : ℤ × ℤ) (z : ℤ) → IsWithin range z → unsigned_abs z ≤ max 1 (max (unsigned_abs range.0) (unsigned_abs range.1))
 within_size range z h = grind (arith, ints, h.0, h.1)
 
-value_below : (vars : List Var) (f : ℕ → ℤ) → ((x : ℕ) (v : Var) → slice_get vars x ≡ Some v → IsWithin v.range (f x)) → ((x : ℕ) → slice_get vars x ≡ None → f x ≡ pos 0)
+value_below : (vars : List Var) (f : ℕ → ℤ) → ((x : ℕ) (v : Var) → slice_get vars x ≡ Some v → IsWithin v.range (f x))
+    → ((x : ℕ) → slice_get vars x ≡ None → f x ≡ pos 0)
     → (x : ℕ) → unsigned_abs (f x) ≤ var_size (slice_get vars x)
 value_below vars f range none x = of (slice_get vars x) refl
   where
@@ -44,8 +47,10 @@ held_age hold z h = grind (arith, ints, h.0, h.1)
 bit_age : (z : ℤ) → IsWithin (pos 0, pos 1) z → unsigned_abs z ≤ 1
 bit_age z h = grind (arith, ints, h.0, h.1)
 
-age_below : (memories : List Memory) (f : ℕ → ℤ) → ((m : ℕ) (memory : Memory) → slice_get memories m ≡ Some memory → IsWithin (span_of memory) (f m))
-    → ((m : ℕ) → slice_get memories m ≡ None → IsWithin (negsuc 0, pos 1) (f m)) → (m : ℕ) → unsigned_abs (f m) ≤ age_size (slice_get memories m)
+age_below : (memories : List Memory) (f : ℕ → ℤ) → ((m : ℕ) (memory : Memory) → slice_get memories m ≡ Some memory
+    → IsWithin (span_of memory) (f m))
+    → ((m : ℕ) → slice_get memories m ≡ None → IsWithin (negsuc 0, pos 1) (f m)) → (m : ℕ)
+    → unsigned_abs (f m) ≤ age_size (slice_get memories m)
 age_below memories f span none m = of (slice_get memories m) refl
   where
     of : (o : Option Memory) → slice_get memories m ≡ o → unsigned_abs (f m) ≤ age_size o
@@ -63,7 +68,8 @@ views_keep S V now before ages = record {
 module _ (S : Tables) where
   begin_values : AreValuesOf S (init_of S)
   begin_values = record {
-    in_range = λ x v e. subst (IsWithin v.range) (sym (ap (λ o. elim o as (λ z. ℤ) [ None ↦ pos 0 | Some u ↦ u.init ]) e)) (S.sound.inits x v e);
+    in_range = λ x v e. subst (IsWithin v.range) (sym (ap (λ o. elim o as (λ z. ℤ) [ None ↦ pos 0 | Some u ↦ u.init ]) e))
+        (S.sound.inits x v e);
     none = λ x e. ap (λ o. elim o as (λ z. ℤ) [ None ↦ pos 0 | Some u ↦ u.init ]) e;
   }
 
@@ -85,7 +91,8 @@ module _ (S : Tables) where
 pub looks_keep : LooksKeepSizes
 looks_keep S ρ t values = record {
   now = value_below S.vars (ρ t) (values t (omega arith)).in_range (values t (omega arith)).none;
-  before = let all = either_values S (begins S ρ t) (init_of S) (ρ (scan_before t)) (begin_values S) (values (scan_before t) (earlier S t)) in
+  before = let all = either_values S (begins S ρ t) (init_of S) (ρ (scan_before t)) (begin_values S) (values (scan_before t) (earlier S t))
+      in
       value_below S.vars (before S ρ t) all.in_range all.none;
   age = age_below S.memories (kept S ρ t) (kept_ages S ρ t).in_span (kept_ages S ρ t).none;
 }
@@ -97,7 +104,8 @@ lists_tell S kinds scans list t l = record {
 }
 
 -- what is so of all of a list is so of each
-one_of_all : {A : Type 0} (test : A → Bool) (xs : List A) (k : ℕ) (a : A) → list_all test xs ≡ true → slice_get xs k ≡ Some a → test a ≡ true
+one_of_all : {A : Type 0} (test : A → Bool) (xs : List A) (k : ℕ) (a : A) → list_all test xs ≡ true → slice_get xs k ≡ Some a → test a
+    ≡ true
 one_of_all test [] k a all e = absurd (none-some a e)
 one_of_all test (x ∷ xs) zero a all e = subst (λ y. test y ≡ true) (same_Some x a e) (and_parts (test x) (list_all test xs) all).0
 one_of_all test (x ∷ xs) (suc k) a all e = one_of_all test xs k a (and_parts (test x) (list_all test xs) all).1 e
@@ -105,7 +113,8 @@ one_of_all test (x ∷ xs) (suc k) a all e = one_of_all test xs k a (and_parts (
 pub clauses_safe : ClausesAreSafe
 clauses_safe S V keeps =
     let test = is_sized S.vars S.memories in
-    let outer = and_parts (list_all test (S.first ++ S.always)) (list_all test S.step) (sym (list_all-append test (S.first ++ S.always) S.step) ∙ S.sound.sized_clauses) in
+    let outer = and_parts (list_all test (S.first ++ S.always)) (list_all test S.step)
+    (sym (list_all-append test (S.first ++ S.always) S.step) ∙ S.sound.sized_clauses) in
     let inner = and_parts (list_all test S.first) (list_all test S.always) (sym (list_all-append test S.first S.always) ∙ outer.0) in (
       record { vars = S.vars; memories = S.memories; keeps = keeps; small = inner.0 },
       record { vars = S.vars; memories = S.memories; keeps = keeps; small = inner.1 },

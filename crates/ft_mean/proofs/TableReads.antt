@@ -10,12 +10,14 @@ use Rattle.ft_core.specs.meaning.Reads.{Read, cell_reads}
 use Rattle.ft_core.specs.checked.Sound.{may_read}
 use Rattle.ft_mean.specs.meaning.Cells.{cells_of}
 use Rattle.ft_mean.specs.laws.TableLaws.{HasTable, CellsAreOfTable, CellsMayRead, SameDefined, SectionsAreTold, HasOneValue}
-use Rattle.ft_mean.proofs.CellLemmas.{Each, OfCell, each-append, each-filter, reads_each, cells_read, cells_of-is, cells_alike, same_defined}
+use Rattle.ft_mean.proofs.CellLemmas.{Each, OfCell, each-append, each-filter, reads_each, cells_read, cells_of-is, cells_alike}
+use Rattle.ft_mean.proofs.CellLemmas.{same_defined}
 use Rattle.ft_mean.proofs.OneScan.{table_of, answer}
 use Rattle.ft_core.specs.laws.Sections.{is_for_from, same_section, section_self}
 use Rattle.ft_mean.proofs.WellFormed.{opened}
 
-each-flat : {A B : Type 0} (P : B → Type 0) (f : A → List B) (xs : List A) → ((k : ℕ) (a : A) → slice_get xs k ≡ Some a → Each P (f a)) → Each P (flat_map f xs)
+each-flat : {A B : Type 0} (P : B → Type 0) (f : A → List B) (xs : List A) → ((k : ℕ) (a : A) → slice_get xs k ≡ Some a → Each P (f a))
+    → Each P (flat_map f xs)
 each-flat P f [] h = tt
 each-flat P f (x ∷ xs) h = each-append P (f x) (flat_map f xs) (h zero x refl) (each-flat P f xs (λ k a e. h (suc k) a e))
 
@@ -27,7 +29,8 @@ module _ (S : Tables) (section : Section) (x : ℕ) where
   of_table : (k : ℕ) (table : Table) → slice_get S.tables k ≡ Some table → (b : Bool) → is_section table.section section ≡ b
       → Each (OfCell May) (cond b (cells_for x table.grid) [])
   of_table k table there true its = each-filter (OfCell May) (λ (c : Cell). c.target == x) (cells table.grid)
-      (cells_read May table.grid (λ r c. subst (λ s. IsTrue (may_read S.vars S.memories s r)) (same_section table.section section its) (S.sound.tables_read k table r there c)))
+      (cells_read May table.grid (λ r c. subst (λ s. IsTrue (may_read S.vars S.memories s r)) (same_section table.section section its)
+      (S.sound.tables_read k table r there c)))
   of_table k table there false its = tt
 
   all_may : Each (OfCell May) (cells_of S section x)
@@ -41,7 +44,8 @@ pub defined_alike : SameDefined
 defined_alike S section V W x z same = same_defined V W z (cells_of S section x) (cells_alike V W (cells_of S section x) same)
 
 pub cells_are : CellsAreOfTable
-cells_are S section x k table there its = cells_of-is S section x k table there its (λ l a at for_it. S.sound.one_table section x l k a table at there for_it its)
+cells_are S section x k table there its = cells_of-is S section x k table there its
+    (λ l a at for_it. S.sound.one_table section x l k a table at there for_it its)
 
 pub has_table : HasTable
 has_table S section x v is =
@@ -53,5 +57,6 @@ sections_told a b = (same_section a b, λ is. ap (is_section a) (sym is) ∙ sec
 
 pub one_value : HasOneValue
 one_value S proper section V x v is local =
-    let one = answer S (opened S) proper section V x v is (λ o. local o.place o.table o.is.0 (is_for_from section x o.table o.is.1 o.defines_it)) in
+    let one = answer S (opened S) proper section V x v is (λ o. local o.place o.table o.is.0
+    (is_for_from section x o.table o.is.1 o.defines_it)) in
     record { z = one.z; in_range = one.in_range; is = one.is; only = one.only }

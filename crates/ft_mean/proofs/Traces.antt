@@ -1,5 +1,6 @@
 -- Every given list in range fits exactly one trace of its side.
-use Rattle.std.proofs.Common.{◌≡◌, ◌∙◌, sym, ap, subst, refl, ℕ, zero, suc, ◌+◌, ◌<◌, ◌≤◌, ℤ, pos, Bool, false, [], ◌∷◌, ◌++◌, length, Some, None, slice_get, slice_index_or, arith, ⊎_elim, ext_get_or}
+use Rattle.std.proofs.Common.{◌≡◌, ◌∙◌, sym, ap, subst, refl, ℕ, zero, suc, ◌+◌, ◌<◌, ◌≤◌, ℤ, pos, Bool, false, [], ◌∷◌, ◌++◌, length, Some}
+use Rattle.std.proofs.Common.{None, slice_get, slice_index_or, arith, ⊎_elim, ext_get_or}
 use Rattle.std.specs.Prelude.{IsTrue}
 use Rattle.std.proofs.lemmas.Bool.{cases_Bool, cases_lt, cond-true, cond-false}
 use Rattle.std.proofs.lemmas.List.{length_push, get_or_push, get_or_append_left}
@@ -28,7 +29,8 @@ reading_at S kinds scans t x v is = cond-true (is_of S.vars kinds x) _ (init_of 
     (ap (λ o. elim o as (λ z. Bool) [ None ↦ false | Some u ↦ kinds x u ]) is.0 ∙ is.1)
 
 -- scans in range give a reading in range, of every variable of the set
-pub reading_range : (S : Tables) → IsWellFormed S → (kinds : Kinds) (scans : Scans) → IsListOf S kinds scans → (t x : ℕ) (v : Var) → t < length scans
+pub reading_range : (S : Tables) → IsWellFormed S → (kinds : Kinds) (scans : Scans) → IsListOf S kinds scans → (t x : ℕ) (v : Var)
+    → t < length scans
     → slice_get S.vars x ≡ Some v → IsWithin v.range (reading_of S kinds scans t x)
 reading_range S wf kinds scans list t x v l there = ⊎_elim
     (λ on. list.ranges t x v l (there, sym is ∙ on))
@@ -51,13 +53,16 @@ unfolding rows
 length-rows S kinds a zero = refl
 length-rows S kinds a (suc n) = length_push (rows S kinds a n) (gathered kinds S.vars (a n)) ∙ omega (arith, length-rows S kinds a n)
 
-pub row_at : (S : Tables) (kinds : Kinds) (a : Reading) (n t : ℕ) → t < n → slice_index_or (rows S kinds a n) t [] ≡ gathered kinds S.vars (a t)
+pub row_at : (S : Tables) (kinds : Kinds) (a : Reading) (n t : ℕ) → t < n → slice_index_or (rows S kinds a n) t []
+    ≡ gathered kinds S.vars (a t)
 unfolding rows
 row_at S kinds a zero t l = absurd (omega (arith, l))
 row_at S kinds a (suc n) t l = ⊎_elim
-    (λ less. get_or_append_left (rows S kinds a n) (gathered kinds S.vars (a n) ∷ []) [] t (omega (arith, less, length-rows S kinds a n)) ∙ row_at S kinds a n t less)
+    (λ less. get_or_append_left (rows S kinds a n) (gathered kinds S.vars (a n) ∷ []) [] t (omega (arith, less, length-rows S kinds a n))
+    ∙ row_at S kinds a n t less)
     (λ most. let is : n ≡ t = omega (arith, l, most) in
-    get_or_push (rows S kinds a n) (gathered kinds S.vars (a n)) [] t (length-rows S kinds a n ∙ is) ∙ ap (λ i. gathered kinds S.vars (a i)) is)
+    get_or_push (rows S kinds a n) (gathered kinds S.vars (a n)) [] t (length-rows S kinds a n ∙ is)
+    ∙ ap (λ i. gathered kinds S.vars (a i)) is)
     (cases_lt t n)
 
 -- they tell the reading
@@ -107,11 +112,14 @@ module _ (S : Tables) (wf : IsWellFormed S) (proper : AllProper S) (s : Side) wh
     module _ (in_range : IsListOf S (given_kinds s) h) where
       longer : (n : ℕ) → n < length h → ReadingUpTo n → ReadingUpTo (suc n)
       longer n below p =
-          let scan : ScanUpTo S wf proper s p.a n p.range (reading_of S (given_kinds s) h n) (λ x v is. in_range.ranges n x v below is) (length S.vars + length S.memories) =
-          scan_up_to S wf proper s p.a n p.range (reading_of S (given_kinds s) h n) (λ x v is. in_range.ranges n x v below is) (length S.vars + length S.memories) in
+          let scan : ScanUpTo S wf proper s p.a n p.range (reading_of S (given_kinds s) h n) (λ x v is. in_range.ranges n x v below is)
+          (length S.vars + length S.memories) =
+          scan_up_to S wf proper s p.a n p.range (reading_of S (given_kinds s) h n) (λ x v is. in_range.ranges n x v below is)
+          (length S.vars + length S.memories) in
           let b : Reading = overlay p.a n scan.f in
           let follows_here : Follows S (section_of s) (look S b n) (b n) =
-          λ x v is. subst (λ z. IsTrue (defined S (section_of s) (look S b n) x z)) (sym (overlay_at p.a n scan.f x)) (scan.follows x v is (wf.order.bounded (at_now x))) in
+          λ x v is. subst (λ z. IsTrue (defined S (section_of s) (look S b n) x z)) (sym (overlay_at p.a n scan.f x))
+          (scan.follows x v is (wf.order.bounded (at_now x))) in
           record {
             a = b;
             range = overlay_range S p.a n scan.f p.range scan.in_range;
@@ -122,14 +130,16 @@ module _ (S : Tables) (wf : IsWellFormed S) (proper : AllProper S) (s : Side) wh
                 (cases_lt j n);
             follows = λ j l. ⊎_elim
                 (λ less. moved p.a b j (λ i y m on. sym (overlay_past p.a n scan.f i y (omega (arith, less, m)))) (p.follows j less))
-                (λ most. let eq : n ≡ j = omega (arith, l, most) in subst (λ i. Follows S (section_of s) (look S b i) (b i)) eq follows_here)
+                (λ most. let eq : n ≡ j = omega (arith, l, most) in subst (λ i. Follows S (section_of s) (look S b i) (b i)) eq
+                follows_here)
                 (cases_lt j n);
           }
 
       reading_up_to : (n : ℕ) → n ≤ length h → ReadingUpTo n
       reading_up_to zero below = record {
         a = λ j x. init_of S x;
-        range = λ j x v is. subst (λ o. IsWithin v.range (elim o as (λ z. ℤ) [ None ↦ pos 0 | Some u ↦ u.init ])) (sym is) (wf.inits x v is);
+        range = λ j x v is. subst (λ o. IsWithin v.range (elim o as (λ z. ℤ) [ None ↦ pos 0 | Some u ↦ u.init ])) (sym is)
+            (wf.inits x v is);
         given = λ j x v l is. absurd (omega (arith, l));
         follows = λ j l. absurd (omega (arith, l));
       }
@@ -146,11 +156,13 @@ module _ (S : Tables) (wf : IsWellFormed S) (proper : AllProper S) (s : Side) wh
               is_given = in_range;
               lengths = long;
               values = record {
-                widths = λ t l. ap length (row_at S (side_kinds s) p.a (length h) t (omega (arith, l, long))) ∙ length-gathered (side_kinds s) S.vars (p.a t);
+                widths = λ t l. ap length (row_at S (side_kinds s) p.a (length h) t (omega (arith, l, long)))
+                    ∙ length-gathered (side_kinds s) S.vars (p.a t);
                 ranges = λ t x v l is. subst (λ z. IsWithin v.range z) (sym (tells t x v l is)) (p.range t x v is.0);
               };
               same_given = λ t x v l is. tells t x v l (given_side S s x v is) ∙ p.given t x v (omega (arith, l, long)) is;
-              follows = λ t l. moved p.a (side_reading S s r) t (λ i y m on. sym (tells i y on.0 (omega (arith, l, m)) on.1)) (p.follows t (omega (arith, l, long)));
+              follows = λ t l. moved p.a (side_reading S s r) t (λ i y m on. sym (tells i y on.0 (omega (arith, l, m)) on.1))
+                  (p.follows t (omega (arith, l, long)));
             },
           )
 
@@ -165,7 +177,8 @@ module _ (S : Tables) (wf : IsWellFormed S) (proper : AllProper S) (s : Side) wh
           (same_scan (side_reading S s r) (side_reading S s q) n
           (λ i y less. agree n (omega (arith, below)) i y less)
           (λ i y v m is. reading_range S wf (side_kinds s) r fr.values i y v (omega (arith, m, below)) is)
-          (λ y v is. fr.same_given n y v (omega (arith, below)) is ∙ sym (fq.same_given n y v (omega (arith, below, fr.lengths, fq.lengths)) is))
+          (λ y v is. fr.same_given n y v (omega (arith, below)) is ∙ sym
+          (fq.same_given n y v (omega (arith, below, fr.lengths, fq.lengths)) is))
           (fr.follows n (omega (arith, below)))
           (fq.follows n (omega (arith, below, fr.lengths, fq.lengths)))
           x on))
@@ -174,7 +187,8 @@ module _ (S : Tables) (wf : IsWellFormed S) (proper : AllProper S) (s : Side) wh
       same_traces : r ≡ q
       same_traces = ext_get_or [] r q (fr.lengths ∙ sym fq.lengths) (λ i below.
           same_rows (side_kinds s) S.vars _ _ (fr.values.widths i below) (fq.values.widths i (omega (arith, below, fr.lengths, fq.lengths)))
-          (λ x v is k. sym (reading_at S (side_kinds s) r i x v (is, k)) ∙ agree (length r) (omega arith) i x below (v, (is, k)) ∙ reading_at S (side_kinds s) q i x v (is, k)))
+          (λ x v is k. sym (reading_at S (side_kinds s) r i x v (is, k)) ∙ agree (length r) (omega arith) i x below (v, (is, k))
+          ∙ reading_at S (side_kinds s) q i x v (is, k)))
 
     pub fits_one : IsListOf S (given_kinds s) h → (r : Scans) × Only (Fits S s h) r
     fits_one in_range =

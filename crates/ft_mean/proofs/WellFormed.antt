@@ -1,5 +1,6 @@
 -- A checked set with its variables, tables and ranks at hand, as the other lemmas use them.
-use Rattle.std.proofs.Common.{◌≡◌, ◌∙◌, sym, ap, subst, refl, ℕ, zero, suc, ◌<◌, ◌≤◌, pos, ◌<ℤ◌, ◌≤ℤ◌, Bool, true, false, ◌||◌, cond, max, ◌+◌, length, slice_index_or, List, [], ◌∷◌, Option, Some, None, slice_get, arith, ⊎_elim, true≢false}
+use Rattle.std.proofs.Common.{◌≡◌, ◌∙◌, sym, ap, subst, refl, ℕ, zero, suc, ◌<◌, ◌≤◌, pos, ◌<ℤ◌, ◌≤ℤ◌, Bool, true, false, ◌||◌, cond, max}
+use Rattle.std.proofs.Common.{◌+◌, length, slice_index_or, List, [], ◌∷◌, Option, Some, None, slice_get, arith, ⊎_elim, true≢false}
 use Rattle.std.specs.Prelude.{IsTrue}
 use Rattle.std.specs.List.{Contains, list_any, flat_map}
 use Rattle.std.proofs.lemmas.Int.{ints}
@@ -53,7 +54,8 @@ pub record IsOrder (S : Tables) (rank : Read → ℕ) : Type 0 where
   pub bounded : (r : Read) → rank r < length S.vars + length S.memories
   pub tables : (s : Side) (k : ℕ) (table : Table) (x : ℕ) (r : Read) → IsTable S (section_of s) k table → IsTrue (defines table.grid x)
       → Contains (flat_map cell_reads (cells_for x table.grid)) r → IsTrue (is_current r) → rank r < rank (at_now x)
-  pub memories : (m : ℕ) (r : Read) → Contains (memory_reads (slice_get S.memories m)) r → IsTrue (is_current r) → rank r < rank (of_memory m)
+  pub memories : (m : ℕ) (r : Read) → Contains (memory_reads (slice_get S.memories m)) r → IsTrue (is_current r)
+      → rank r < rank (of_memory m)
 
 -- a timer has a hold, and the bounds of a band lie apart
 abbrev pub IsSoundMemory : Memory → Type 0
@@ -76,7 +78,8 @@ pub record IsWellFormed (S : Tables) : Type 0 where
   pub order : IsOrder S rank
 
 module _ (S : Tables) where
-  pub of_test : (kinds : Kinds) (x : ℕ) (o : Option Var) → slice_get S.vars x ≡ o → elim o as (λ z. Bool) [ None ↦ false | Some v ↦ kinds x v ] ≡ true → IsOf S kinds x
+  pub of_test : (kinds : Kinds) (x : ℕ) (o : Option Var) → slice_get S.vars x ≡ o
+      → elim o as (λ z. Bool) [ None ↦ false | Some v ↦ kinds x v ] ≡ true → IsOf S kinds x
   of_test kinds x None e t = absurd (true≢false (sym t))
   of_test kinds x (Some v) e t = (v, (e, t))
 
@@ -190,16 +193,20 @@ opened S = let h = S.sound in record {
   tables_read = λ k table r is c. read_test S table.section r (h.tables_read k table r is c);
   memories_read = λ m memory r is c. side_test S (side_of memory) r (h.memories_read m memory r is c);
   has_table = λ section x v is.
-      let at = any_table S section x S.tables (h.has_table section x (ap (λ o. elim o as (λ z. Bool) [ None ↦ false | Some u ↦ defined_kinds section x u ]) is.0 ∙ is.1)) in
+      let at = any_table S section x S.tables (h.has_table section x (ap
+      (λ o. elim o as (λ z. Bool) [ None ↦ false | Some u ↦ defined_kinds section x u ]) is.0 ∙ is.1)) in
       let both = and_parts (is_section at.1.section section) (defines at.1.grid x) at.3 in
       (at.0, at.1, (at.2, same_section at.1.section section both.0), both.1);
-  one_table = λ section x k l a b ia ib da db. h.one_table section x k l a b ia.0 ib.0 (is_for_from section x a ia.1 da) (is_for_from section x b ib.1 db);
+  one_table = λ section x k l a b ia ib da db. h.one_table section x k l a b ia.0 ib.0 (is_for_from section x a ia.1 da)
+      (is_for_from section x b ib.1 db);
   rank = whole S.vars S.memories S.tables;
   order = let rank = ranked S.vars S.memories S.tables h.order in record {
     bounded = rank.bounded;
     tables = λ s k table x r is d c now. rank.falls (at_now x) r
-        (in_all (λ (t : Table). cond (is_for section.Req x t || is_for section.Sof x t) (flat_map cell_reads (cells_for x t.grid)) []) S.tables k table r is.0
-        (subst (λ b. Contains (cond b (flat_map cell_reads (cells_for x table.grid)) []) r) (sym (of_side s x table (is_for_from (section_of s) x table is.1 d))) c)) now;
+        (in_all (λ (t : Table). cond (is_for section.Req x t || is_for section.Sof x t) (flat_map cell_reads (cells_for x t.grid)) [])
+        S.tables k table r is.0
+        (subst (λ b. Contains (cond b (flat_map cell_reads (cells_for x table.grid)) []) r)
+        (sym (of_side s x table (is_for_from (section_of s) x table is.1 d))) c)) now;
     memories = λ m r c now. rank.falls (of_memory m) r c now;
   };
 }

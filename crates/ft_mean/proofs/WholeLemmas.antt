@@ -35,7 +35,8 @@ use Rattle.ft_mean.proofs.Traces.{one_trace, reading_range}
 use Rattle.ft_mean.proofs.WellFormed.{opened, read_test, NowOf}
 
 -- what OUT gives along a reading whose outputs are those of a design trace, it gives along the trace
-module _ (S : Tables) (ρ : Reading) (s c : Scans) (values : IsListOf S (side_kinds side.Sof) s) (maps : OutputMap S s c) (t : ℕ) (inside : t < length s)
+module _ (S : Tables) (ρ : Reading) (s c : Scans) (values : IsListOf S (side_kinds side.Sof) s) (maps : OutputMap S s c) (t : ℕ)
+    (inside : t < length s)
     (agree : (x : ℕ) (v : Var) → IsVar S outputs x v → ρ t x ≡ side_reading S side.Sof s t x) where
   abbrev there : View
   there = look S (side_reading S side.Sof s) t
@@ -53,13 +54,16 @@ module _ (S : Tables) (ρ : Reading) (s c : Scans) (values : IsListOf S (side_ki
   pub out_given : (x : ℕ) (v : Var) → IsVar S controlled x v → IsTrue (defined S section.Out (look S ρ t) x (reading_of S controlled c t x))
   out_given x v is = sym (out_same x _) ∙ maps.follows t (omega (arith, inside, maps.lengths)) x v is
 
-  pub out_only : AllProper S → (x : ℕ) (v : Var) (z : ℤ) → IsVar S controlled x v → IsTrue (defined S section.Out (look S ρ t) x z) → z ≡ reading_of S controlled c t x
+  pub out_only : AllProper S → (x : ℕ) (v : Var) (z : ℤ) → IsVar S controlled x v → IsTrue (defined S section.Out (look S ρ t) x z) → z
+      ≡ reading_of S controlled c t x
   out_only proper x v z is d =
       let one = answer S (opened S) proper section.Out there x v is
-      (λ o. look_local S (opened S) (side_reading S side.Sof s) t (λ j y u m at. reading_range S (opened S) (side_kinds side.Sof) s values j y u (omega (arith, m, inside)) at) _) in
+      (λ o. look_local S (opened S) (side_reading S side.Sof s) t (λ j y u m at. reading_range S (opened S) (side_kinds side.Sof) s values j
+      y u (omega (arith, m, inside)) at) _) in
       one.only z (out_same x z ∙ d) ∙ sym (one.only _ (maps.follows t (omega (arith, inside, maps.lengths)) x v is))
 
-module _ (S : Tables) (h r i s : Scans) (allowed : Allowed S h) (fits : Fits S side.Req h r) (ins : InputMap S h i) (design : Fits S side.Sof i s) where
+module _ (S : Tables) (h r i s : Scans) (allowed : Allowed S h) (fits : Fits S side.Req h r) (ins : InputMap S h i)
+    (design : Fits S side.Sof i s) where
   abbrev ρ : Reading
   ρ = joint S r s
 
@@ -67,7 +71,8 @@ module _ (S : Tables) (h r i s : Scans) (allowed : Allowed S h) (fits : Fits S s
   long = design.lengths ∙ ins.lengths
 
   on_req : (t x : ℕ) (v : Var) → t < length h → IsVar S (side_kinds side.Req) x v → ρ t x ≡ side_reading S side.Req r t x
-  on_req t x v l is = cond-true (is_of S.vars (side_kinds side.Req) x) _ (side_reading S side.Sof s t x) (of_var S (side_kinds side.Req) x v is)
+  on_req t x v l is = cond-true (is_of S.vars (side_kinds side.Req) x) _ (side_reading S side.Sof s t x)
+      (of_var S (side_kinds side.Req) x v is)
 
   on_sof : (t x : ℕ) (v : Var) → t < length h → IsVar S (side_kinds side.Sof) x v → ρ t x ≡ side_reading S side.Sof s t x
   on_sof t x v l is = cond-false (is_of S.vars (side_kinds side.Req) x) (side_reading S side.Req r t x) _ (not_required S x v is)
@@ -90,9 +95,11 @@ module _ (S : Tables) (h r i s : Scans) (allowed : Allowed S h) (fits : Fits S s
   whole : IsWhole S (length h) ρ
   whole = record {
     ranges = range_at;
-    clauses = λ t l. nat_same S ρ (reading_of S monitored h) t (λ j x v m is. as_monitored j x v (omega (arith, l, m)) is) ∙ allowed.clauses t l;
+    clauses = λ t l. nat_same S ρ (reading_of S monitored h) t (λ j x v m is. as_monitored j x v (omega (arith, l, m)) is)
+        ∙ allowed.clauses t l;
     inputs = λ t l x v is.
-        let follows = follows_again S (opened S) section.In monitored (λ q m. m) (look S (reading_of S monitored h) t) (look S ρ t) (reading_of S inputs i t)
+        let follows = follows_again S (opened S) section.In monitored (λ q m. m) (look S (reading_of S monitored h) t) (look S ρ t)
+        (reading_of S inputs i t)
         (λ y on. sym (as_monitored t y on.0 l on.1)) (ins.follows t (omega (arith, l, ins.lengths))) in
         ap (defined S section.In (look S ρ t) x) (as_input t x v l is) ∙ follows x v is;
     required = λ t l. side_follows S side.Req (side_reading S side.Req r) ρ t (λ j x v m is. sym (on_req j x v (omega (arith, l, m)) is))
@@ -107,7 +114,8 @@ module _ (S : Tables) (h r i s : Scans) (allowed : Allowed S h) (fits : Fits S s
     as_required = on_req;
     as_designed = on_sof;
     gives = λ c maps t x v l is. out_given S ρ s c design.values maps t (omega (arith, l, long)) (λ y u on. as_output t y u l on) x v is;
-    as_put_out = λ proper c maps t x v z l is d. out_only S ρ s c design.values maps t (omega (arith, l, long)) (λ y u on. as_output t y u l on) proper x v z is d;
+    as_put_out = λ proper c maps t x v z l is d. out_only S ρ s c design.values maps t (omega (arith, l, long))
+        (λ y u on. as_output t y u l on) proper x v z is d;
   }
 
 pub runs_are_whole : RunsAreWhole
@@ -124,7 +132,8 @@ module _ (S : Tables) (n : ℕ) (ρ : Reading) (some : 0 < n) (whole : IsWhole S
   cut_list : (kinds : Kinds) → IsListOf S kinds (cut kinds)
   cut_list kinds = let of = rows_of kinds in record {
     widths = λ t l. of.widths t (omega (arith, l, of.long));
-    ranges = λ t x v l is. subst (IsWithin v.range) (sym (of.tells t x v (omega (arith, l, of.long)) is)) (whole.ranges t x v (omega (arith, l, of.long)) is.0);
+    ranges = λ t x v l is. subst (IsWithin v.range) (sym (of.tells t x v (omega (arith, l, of.long)) is))
+        (whole.ranges t x v (omega (arith, l, of.long)) is.0);
   }
 
   cut_follows : (s : Side) → ((t : ℕ) → t < n → Follows S (section_of s) (look S ρ t) (ρ t)) → (t : ℕ) → t < length (cut (side_kinds s))
@@ -132,9 +141,11 @@ module _ (S : Tables) (n : ℕ) (ρ : Reading) (some : 0 < n) (whole : IsWhole S
   cut_follows s follows t l =
       let of = rows_of (side_kinds s) in
       let low : t < n = omega (arith, l, of.long) in
-      side_follows S s ρ (side_reading S s (cut (side_kinds s))) t (λ j x v m is. sym (of.tells j x v (omega (arith, m, low)) is)) (follows t low)
+      side_follows S s ρ (side_reading S s (cut (side_kinds s))) t (λ j x v m is. sym (of.tells j x v (omega (arith, m, low)) is))
+      (follows t low)
 
-  cut_fits : (s : Side) → ((t : ℕ) → t < n → Follows S (section_of s) (look S ρ t) (ρ t)) → Fits S s (cut (given_kinds s)) (cut (side_kinds s))
+  cut_fits : (s : Side) → ((t : ℕ) → t < n → Follows S (section_of s) (look S ρ t) (ρ t))
+      → Fits S s (cut (given_kinds s)) (cut (side_kinds s))
   cut_fits s follows = let of = rows_of (side_kinds s) in let given = rows_of (given_kinds s) in record {
     is_given = cut_list (given_kinds s);
     lengths = of.long ∙ sym given.long;
@@ -152,7 +163,8 @@ module _ (S : Tables) (n : ℕ) (ρ : Reading) (some : 0 < n) (whole : IsWhole S
     };
     clauses = λ t l.
         let low : t < n = omega (arith, l, of.long) in
-        nat_same S (reading_of S monitored (cut monitored)) ρ t (λ j x v m is. of.tells j x v (omega (arith, m, low)) is) ∙ whole.clauses t low;
+        nat_same S (reading_of S monitored (cut monitored)) ρ t (λ j x v m is. of.tells j x v (omega (arith, m, low)) is)
+        ∙ whole.clauses t low;
   }
 
   cut_inputs : InputMap S (cut monitored) (cut inputs)
@@ -219,13 +231,15 @@ module _ (S : Tables) (proper : AllProper S) (n : ℕ) (ρ : Reading) (w : Whole
   agrees : (t : ℕ) → t < n → (x : ℕ) (v : Var) → IsVar S outputs x v → ρ t x ≡ side_reading S side.Sof w.s t x
   agrees t l x v is = sym (w.tells_designed t x v l (output_side S x v is))
 
-  same_at : (t : ℕ) → t < n → ((x : ℕ) (v : Var) → IsVar S controlled x v → IsTrue (defined S section.Out (look S ρ t) x (ρ t x))) → SameAt S w.r c t
+  same_at : (t : ℕ) → t < n → ((x : ℕ) (v : Var) → IsVar S controlled x v → IsTrue (defined S section.Out (look S ρ t) x (ρ t x)))
+      → SameAt S w.r c t
   same_at t l met x v is =
       w.tells_required t x v l (controlled_side S x v is)
       ∙ out_only S ρ w.s c w.design.values maps t (omega (arith, l, long_s)) (agrees t l) proper x v (ρ t x) is (met x v is)
 
   -- they first differ where OUT first fails to give the controlled values
-  pub first_differs : (k x : ℕ) (v : Var) → k < n → ((t y : ℕ) (u : Var) → t < k → IsVar S controlled y u → IsTrue (defined S section.Out (look S ρ t) y (ρ t y)))
+  pub first_differs : (k x : ℕ) (v : Var) → k < n → ((t y : ℕ) (u : Var) → t < k → IsVar S controlled y u
+      → IsTrue (defined S section.Out (look S ρ t) y (ρ t y)))
       → IsVar S controlled x v → defined S section.Out (look S ρ k) x (ρ k x) ≡ false → FirstDiffers S w.h k
   first_differs k x v l met is fails = record {
     r = w.r;

@@ -4,7 +4,8 @@ ghost use Rattle.std.specs.Ordering.{int_eq};
 ghost use Rattle.std.specs.List.{list_any, zip};
 ghost use Rattle.ft_core.specs.meaning.Grids.{is_section};
 ghost use Rattle.ft_mean.specs.meaning.Cells.{defined};
-ghost use Rattle.ft_mean.specs.judge.Safe.{IsSafe, IsSafeCond, IsSafeGrid, AreSafe, AreSafeConds, AreSafeRows, AreSafeCondRows, AreSafeTables};
+ghost use Rattle.ft_mean.specs.judge.Safe.{IsSafe, IsSafeCond, IsSafeGrid, AreSafe, AreSafeConds, AreSafeRows, AreSafeCondRows};
+ghost use Rattle.ft_mean.specs.judge.Safe.{AreSafeTables};
 ghost use Rattle.ft_mean.specs.judge.Seen.{gives_in, row_gives, grid_gives};
 ghost use Rattle.ft_mean.specs.meaning.Value.{value, truth};
 

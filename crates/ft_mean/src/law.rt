@@ -1,11 +1,16 @@
 ghost use Rattle.ft_mean.specs.laws.EvaluationLaws.{SameValue, SameTruth, SameTruths, SameCell, SameHolding};
-ghost use Rattle.ft_mean.specs.laws.LookLaws.{MemoriesRemember, SidesReadNoAge, LooksAreLinked, SideLooksSame, SideFollowsSame, NatSame, LooksAreLocal};
+ghost use Rattle.ft_mean.specs.laws.LookLaws.{MemoriesRemember, SidesReadNoAge, LooksAreLinked, SideLooksSame, SideFollowsSame, NatSame};
+ghost use Rattle.ft_mean.specs.laws.LookLaws.{LooksAreLocal};
 ghost use Rattle.ft_mean.specs.laws.PastLaws.{SameHeld, SameAge, SameHyst, HystBegins, HystGoesOn, AgeBegins, AgeGoesOn, HeldByAge};
-ghost use Rattle.ft_mean.specs.laws.RowLaws.{PlacesAreInside, PlacesAreTaken, SameRows, ReadAtPlace, ReadInRange, ReadInFront, HasRows, GivenOrDefined};
-ghost use Rattle.ft_mean.specs.laws.SafetyLaws.{ViewsKeepSizes, LooksKeepSizes, ListsTellValues, ClausesAreSafe, TablesAreSafe, MemoriesAreSafe, SafeByLess};
-ghost use Rattle.ft_mean.specs.laws.TableLaws.{HasTable, CellsAreOfTable, CellsReadTheirs, OwnReads, CellsMayRead, SameDefined, SectionsAreTold, HasOneValue};
+ghost use Rattle.ft_mean.specs.laws.RowLaws.{PlacesAreInside, PlacesAreTaken, SameRows, ReadAtPlace, ReadInRange, ReadInFront, HasRows};
+ghost use Rattle.ft_mean.specs.laws.RowLaws.{GivenOrDefined};
+ghost use Rattle.ft_mean.specs.laws.SafetyLaws.{ViewsKeepSizes, LooksKeepSizes, ListsTellValues, ClausesAreSafe, TablesAreSafe};
+ghost use Rattle.ft_mean.specs.laws.SafetyLaws.{MemoriesAreSafe, SafeByLess};
+ghost use Rattle.ft_mean.specs.laws.TableLaws.{HasTable, CellsAreOfTable, CellsReadTheirs, OwnReads, CellsMayRead, SameDefined};
+ghost use Rattle.ft_mean.specs.laws.TableLaws.{SectionsAreTold, HasOneValue};
 ghost use Rattle.ft_mean.specs.laws.TimeLaws.{ElapsedUp, SinceNone, SinceNext, SinceFalls, BegunLow, BegunHere, BegunPast};
-ghost use Rattle.ft_mean.specs.laws.TraceLaws.{FitsLonger, AllowedShorter, FitsShorter, InputsShorter, OutputsShorter, SameFront, DiffersShorter};
+ghost use Rattle.ft_mean.specs.laws.TraceLaws.{FitsLonger, AllowedShorter, FitsShorter, InputsShorter, OutputsShorter, SameFront};
+ghost use Rattle.ft_mean.specs.laws.TraceLaws.{DiffersShorter};
 ghost use Rattle.ft_mean.specs.laws.Whole.{RunsAreWhole, WholesSplit, SplitsAreRuns, SplitsDiffer};
 ghost use Rattle.ft_mean.specs.laws.Laws.{FitsOneTrace, HasOneImage, HeldIsFullAge, MemoriesMove, MapsByScan, OutputsAlone, AllowedByScan};
 

@@ -42,7 +42,8 @@ fn was_held_from(
     requires safe { (t : ℕ) → IsSafeCond (view_at seen.now t) cond.now }
     requires past { from ≤ scan }
     requires last { scan + 1 < 18446744073709551616 }
-    ensures { result ≡ (int_le hold (since known.now.tables.now (reading_by known.now.tables.now known.now.scope known.now.scans.now) from scan)
+    ensures { result ≡ (int_le hold (since known.now.tables.now (reading_by known.now.tables.now known.now.scope known.now.scans.now) from
+        scan)
         && list_all (λ j. truth (view_at seen.now j) cond.now) (scans from scan)) }
 {
     i128::from(hold) <= since(known, from, scan) && is_true_from(cond, seen, from, scan)
@@ -53,7 +54,8 @@ fn was_held(cond: &Cond, hold: i64, known: &Known, seen: &Seen, begun: usize, sc
     requires safe { (t : ℕ) → IsSafeCond (view_at seen.now t) cond.now }
     requires begun { begun ≤ scan }
     requires last { scan + 1 < 18446744073709551616 }
-    ensures { result ≡ held begun (λ j. since known.now.tables.now (reading_by known.now.tables.now known.now.scope known.now.scans.now) j scan) hold
+    ensures { result ≡ held begun (λ j. since known.now.tables.now (reading_by known.now.tables.now known.now.scope known.now.scans.now) j
+        scan) hold
         (λ j. truth (view_at seen.now j) cond.now) scan }
 {
     for from in begun..scan + 1 {
@@ -101,7 +103,8 @@ pub(crate) fn is_recalled(memory: &Memory, known: &Known, seen: &Seen, scan: usi
     requires safe { (t : ℕ) → IsSafeMemory (view_at seen.now t) memory.now }
     requires last { scan + 1 < 18446744073709551616 }
     ensures { result ≡ recalled (begun known.now.tables.now (reading_by known.now.tables.now known.now.scope known.now.scans.now) scan)
-        (λ j. since known.now.tables.now (reading_by known.now.tables.now known.now.scope known.now.scans.now) j scan) seen.now memory.now scan }
+        (λ j. since known.now.tables.now (reading_by known.now.tables.now known.now.scope known.now.scans.now) j scan) seen.now memory.now
+        scan }
 {
     let from = begun(known, scan);
     match memory {
@@ -124,7 +127,8 @@ fn recalled_row(
 ) -> Result<List<bool>, NoMemory>
     requires safe { (t : ℕ) → AreSafeMemories (view_at seen.now t) known.now.tables.now.memories }
     requires last { scan + 1 < 18446744073709551616 }
-    ensures { IfOk result (λ row. row ≡ recalled_at known.now.tables.now (reading_by known.now.tables.now known.now.scope known.now.scans.now) seen.now scan) }
+    ensures { IfOk result (λ row. row ≡ recalled_at known.now.tables.now
+        (reading_by known.now.tables.now known.now.scope known.now.scans.now) seen.now scan) }
 {
     let mut row = List::new(alloc);
     for memory in known.tables.memories.as_slice() {
@@ -140,7 +144,8 @@ pub(crate) fn recalled_rows(
     seen: &Seen,
 ) -> Result<List<List<bool>>, NoMemory>
     requires { (t : ℕ) → AreSafeMemories (view_at seen.now t) known.now.tables.now.memories }
-    ensures { IfOk result (λ bits. bits ≡ map (recalled_at known.now.tables.now (reading_by known.now.tables.now known.now.scope known.now.scans.now) seen.now) (range_with_len 0 (length seen.now.rows))) }
+    ensures { IfOk result (λ bits. bits ≡ map (recalled_at known.now.tables.now
+        (reading_by known.now.tables.now known.now.scope known.now.scans.now) seen.now) (range_with_len 0 (length seen.now.rows))) }
 {
     let mut bits = List::new(alloc);
     for scan in 0..seen.rows.scans() {
@@ -152,7 +157,8 @@ pub(crate) fn recalled_rows(
 /// The same scans, with the truths of the memories after so many rounds.
 fn recall(alloc: Global, known: &Known, start: Seen, rounds: usize) -> Result<Seen, NoMemory>
     requires { (t : ℕ) → AreSafeMemories (view_at start t) known.now.tables.now.memories }
-    ensures { IfOk result (λ seen. seen ≡ after_rounds known.now.tables.now (reading_by known.now.tables.now known.now.scope known.now.scans.now) rounds start) }
+    ensures { IfOk result (λ seen. seen ≡ after_rounds known.now.tables.now
+        (reading_by known.now.tables.now known.now.scope known.now.scans.now) rounds start) }
 {
     let mut seen = start;
     for _round in 0..rounds {
@@ -165,7 +171,9 @@ fn recall(alloc: Global, known: &Known, start: Seen, rounds: usize) -> Result<Se
 /// their number.
 pub(crate) fn recall_all(alloc: Global, known: &Known, start: Seen) -> Result<Seen, NoMemory>
     requires { (t : ℕ) → AreSafeMemories (view_at start t) known.now.tables.now.memories }
-    ensures { IfOk result (λ seen. seen ≡ after_rounds known.now.tables.now (reading_by known.now.tables.now known.now.scope known.now.scans.now) (length known.now.tables.now.vars + length known.now.tables.now.memories) start) }
+    ensures { IfOk result (λ seen. seen ≡ after_rounds known.now.tables.now
+        (reading_by known.now.tables.now known.now.scope known.now.scans.now)
+        (length known.now.tables.now.vars + length known.now.tables.now.memories) start) }
 {
     let half = recall(alloc, known, start, known.tables.memories.len())?;
     let seen = recall(alloc, known, half, known.tables.vars.len())?;

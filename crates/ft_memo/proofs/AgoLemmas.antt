@@ -24,7 +24,8 @@ pub ago_none : (period : ℤ) (t : ℕ) → ago period t t ≡ pos 0
 ago_none period t = let same : t - t ≡ zero = omega arith in ap (λ k. pos k *ℤ period) same ∙ none period
 
 pub ago_next : (period : ℤ) (t j : ℕ) → j ≤ t → ago period (suc t) j ≡ ago period t j +ℤ period
-ago_next period t j low = let longer : suc t - j ≡ suc (t - j) = omega (arith, low) in ap (λ k. pos k *ℤ period) longer ∙ next (t - j) period
+ago_next period t j low = let longer : suc t - j ≡ suc (t - j) = omega (arith, low) in ap (λ k. pos k *ℤ period) longer
+    ∙ next (t - j) period
 
 pub ago_up : (period : ℤ) (t j : ℕ) → pos 0 ≤ℤ period → pos 0 ≤ℤ ago period t j
 ago_up period t j h = up (t - j) period h

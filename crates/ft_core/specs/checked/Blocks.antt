@@ -47,7 +47,8 @@ pub record AreBlocks (vars : List Var) (memories : List Memory) (blocks : List B
   pub few : length blocks ≤ 400
   pub few_facts : sum_by (λ block. length block.facts) blocks ≤ 400
   pub some_fact : (b : ℕ) (block : Block) → slice_get blocks b ≡ Some block → 0 < length block.facts
-  pub takes : (b : ℕ) (block : Block) (t : Take) → slice_get blocks b ≡ Some block → Contains block.takes t → IsTrue (may_take vars memories t)
+  pub takes : (b : ℕ) (block : Block) (t : Take) → slice_get blocks b ≡ Some block → Contains block.takes t
+      → IsTrue (may_take vars memories t)
   pub takes_differ : (b : ℕ) (block : Block) → slice_get blocks b ≡ Some block → AreDistinct block.takes
   pub uses : (b : ℕ) (block : Block) (used : ℕ × ℕ) → slice_get blocks b ≡ Some block → Contains block.uses used
       → IsTrue (names_invariant blocks used)

@@ -34,7 +34,8 @@ pub record AreChecked (name : List ℕ) (splits depth : ℕ) (vars : List Var) (
   -- the bounds of a variable are at most 1,000,000,000 either way
   pub ranges : (x : ℕ) (v : Var) → slice_get vars x ≡ Some v → IsBounded 1000000000 v.range.0 v.range.1
   -- and so are those of a band
-  pub bands : (m : ℕ) (name : List ℕ) (side : Side) (e : Term) (lo hi : ℤ) (start : Bool) → slice_get memories m ≡ Some (Hyst name side e lo hi start)
+  pub bands : (m : ℕ) (name : List ℕ) (side : Side) (e : Term) (lo hi : ℤ) (start : Bool) → slice_get memories m
+      ≡ Some (Hyst name side e lo hi start)
       → IsBounded 1000000000 lo hi
   pub few_members : (x : ℕ) (v : Var) → slice_get vars x ≡ Some v → length v.members ≤ 64
   -- the values of an enum are the places of its members
@@ -49,11 +50,14 @@ pub record AreChecked (name : List ℕ) (splits depth : ℕ) (vars : List Var) (
   pub facts : AreBlocks vars memories blocks
 
 -- The same, closed: a proof opens it by `unfolding IsChecked`, so that no search looks into it wherever a set is lent.
-unfoldable pub IsChecked : (name : List ℕ) → (splits depth : ℕ) → List Var → List Memory → List Table → (first always step : List Cond) → List Block → Type 0
-IsChecked name splits depth vars memories tables first always step blocks = AreChecked name splits depth vars memories tables first always step blocks
+unfoldable pub IsChecked : (name : List ℕ) → (splits depth : ℕ) → List Var → List Memory → List Table → (first always step : List Cond)
+    → List Block → Type 0
+IsChecked name splits depth vars memories tables first always step blocks =
+    AreChecked name splits depth vars memories tables first always step blocks
 
 -- and it is a fact
-pub checked_prop : (name : List ℕ) (splits depth : ℕ) (vars : List Var) (memories : List Memory) (tables : List Table) (first always step : List Cond) (blocks : List Block)
+pub checked_prop : (name : List ℕ) (splits depth : ℕ) (vars : List Var) (memories : List Memory) (tables : List Table)
+    (first always step : List Cond) (blocks : List Block)
     → IsProp (IsChecked name splits depth vars memories tables first always step blocks)
 unfolding IsChecked
 checked_prop name splits depth vars memories tables first always step blocks = Prim.hlevel props

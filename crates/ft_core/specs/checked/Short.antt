@@ -63,8 +63,10 @@ is_short_memory (Held name side c hold) = is_short c
 is_short_memory (Hyst name side e lo hi start) = is_short_term e
 
 abbrev pub is_short_grid : Grid → Bool
-is_short_grid (Normal target columns rows terms) = list_all is_short columns && list_all is_short rows && list_all (list_all is_short_term) terms
-is_short_grid (Inverted target terms rows grid) = list_all is_short_term terms && list_all is_short rows && list_all (list_all is_short) grid
+is_short_grid (Normal target columns rows terms) = list_all is_short columns && list_all is_short rows
+    && list_all (list_all is_short_term) terms
+is_short_grid (Inverted target terms rows grid) = list_all is_short_term terms && list_all is_short rows
+    && list_all (list_all is_short) grid
 is_short_grid (Vector columns targets terms) = list_all is_short columns && list_all (list_all is_short_term) terms
 
 -- what was checked of the terms of a set beside their sizes; those of invariants are spoken of with the blocks

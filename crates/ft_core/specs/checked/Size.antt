@@ -67,8 +67,10 @@ is_sized_memory vars memories (Hyst name side e lo hi start) = is_sized_term var
 
 abbrev pub is_sized_grid : List Var → List Memory → Grid → Bool
 is_sized_grid vars memories (Normal target columns rows terms) =
-    list_all (is_sized vars memories) columns && list_all (is_sized vars memories) rows && list_all (list_all (is_sized_term vars memories)) terms
+    list_all (is_sized vars memories) columns && list_all (is_sized vars memories) rows
+    && list_all (list_all (is_sized_term vars memories)) terms
 is_sized_grid vars memories (Inverted target terms rows grid) =
-    list_all (is_sized_term vars memories) terms && list_all (is_sized vars memories) rows && list_all (list_all (is_sized vars memories)) grid
+    list_all (is_sized_term vars memories) terms && list_all (is_sized vars memories) rows
+    && list_all (list_all (is_sized vars memories)) grid
 is_sized_grid vars memories (Vector columns targets terms) =
     list_all (is_sized vars memories) columns && list_all (list_all (is_sized_term vars memories)) terms

@@ -1,5 +1,6 @@
 -- What holds of every checked set.
-use Rattle.std.specs.Prelude.{ℕ, ◌+◌, ◌≡◌, ◌<◌, ◌≤◌, ℤ, pos, ◌<ℤ◌, Bool, true, false, ◌||◌, IsTrue, List, [], ◌++◌, length, slice_get, Some, None, if◌then◌else◌}
+use Rattle.std.specs.Prelude.{ℕ, ◌+◌, ◌≡◌, ◌<◌, ◌≤◌, ℤ, pos, ◌<ℤ◌, Bool, true, false, ◌||◌, IsTrue, List, [], ◌++◌, length, slice_get, Some}
+use Rattle.std.specs.Prelude.{None, if◌then◌else◌}
 use Rattle.std.specs.List.{Contains, flat_map, list_all, list_any}
 use Rattle.ft_base.specs.Interval.{IsWithin}
 use Rattle.ft_core.specs.declared.tables.Var.{Var}
@@ -90,29 +91,32 @@ IsPeriod = IsWithin (pos 1, pos 10000)
 
 -- what was checked of a set: its counts, places and numbers, the shapes of its tables and the sizes of its terms, what may be
 -- read where, one table for each variable and section, and an order
-pub record IsSound (period : ℤ) (vars : List Var) (memories : List Memory) (tables : List Table) (first always step : List Cond) : Type 0 where
-  pub few_vars : length vars ≤ 1100
-  pub few_memories : length memories ≤ 200
-  pub few_tables : length tables ≤ 400
-  pub few_clauses : length (first ++ always ++ step) ≤ 700
-  pub places : (x : ℕ) (v : Var) → slice_get vars x ≡ Some v → v.place ≡ place_of (of_kind v.kind) vars x
-  pub shapes : IsTrue (list_all (λ table. is_shaped table.grid) tables)
-  pub has_period : IsPeriod period
-  pub inits : (x : ℕ) (v : Var) → slice_get vars x ≡ Some v → IsWithin v.range v.init
-  pub timers : (m : ℕ) (name : List ℕ) (s : Side) (cond : Cond) (hold : ℤ) → slice_get memories m ≡ Some (Held name s cond hold) → IsHold hold
-  pub bands : (m : ℕ) (name : List ℕ) (s : Side) (e : Term) (lo hi : ℤ) (start : Bool) → slice_get memories m ≡ Some (Hyst name s e lo hi start)
-      → lo <ℤ hi
-  pub sized_memories : IsTrue (list_all (is_sized_memory vars memories) memories)
-  pub sized_tables : IsTrue (list_all (λ table. is_sized_grid vars memories table.grid) tables)
-  pub sized_clauses : IsTrue (list_all (is_sized vars memories) (first ++ always ++ step))
-  pub tables_read : (k : ℕ) (table : Table) (r : Read) → slice_get tables k ≡ Some table → Contains (grid_reads table.grid) r
-      → IsTrue (may_read vars memories table.section r)
-  pub memories_read : (m : ℕ) (memory : Memory) (r : Read) → slice_get memories m ≡ Some memory → Contains (memory_reads (Some memory)) r
-      → IsTrue (on_side vars memories (side_of memory) r)
-  pub first_reads : AllRead (now_of vars monitored) first
-  pub always_reads : AllRead (now_of vars monitored) always
-  pub step_reads : AllRead (step_of vars monitored) step
-  pub has_table : (section : Section) (x : ℕ) → IsTrue (is_of vars (defined_kinds section) x) → IsTrue (list_any (is_for section x) tables)
-  pub one_table : (section : Section) (x k l : ℕ) (a b : Table) → slice_get tables k ≡ Some a → slice_get tables l ≡ Some b
-      → IsTrue (is_for section x a) → IsTrue (is_for section x b) → k ≡ l
-  pub order : ∥ HasOrder vars memories tables ∥₁
+pub record IsSound (period : ℤ) (vars : List Var) (memories : List Memory) (tables : List Table) (first always step : List Cond) : Type 0
+  where
+    pub few_vars : length vars ≤ 1100
+    pub few_memories : length memories ≤ 200
+    pub few_tables : length tables ≤ 400
+    pub few_clauses : length (first ++ always ++ step) ≤ 700
+    pub places : (x : ℕ) (v : Var) → slice_get vars x ≡ Some v → v.place ≡ place_of (of_kind v.kind) vars x
+    pub shapes : IsTrue (list_all (λ table. is_shaped table.grid) tables)
+    pub has_period : IsPeriod period
+    pub inits : (x : ℕ) (v : Var) → slice_get vars x ≡ Some v → IsWithin v.range v.init
+    pub timers : (m : ℕ) (name : List ℕ) (s : Side) (cond : Cond) (hold : ℤ) → slice_get memories m ≡ Some (Held name s cond hold)
+        → IsHold hold
+    pub bands : (m : ℕ) (name : List ℕ) (s : Side) (e : Term) (lo hi : ℤ) (start : Bool) → slice_get memories m
+        ≡ Some (Hyst name s e lo hi start)
+        → lo <ℤ hi
+    pub sized_memories : IsTrue (list_all (is_sized_memory vars memories) memories)
+    pub sized_tables : IsTrue (list_all (λ table. is_sized_grid vars memories table.grid) tables)
+    pub sized_clauses : IsTrue (list_all (is_sized vars memories) (first ++ always ++ step))
+    pub tables_read : (k : ℕ) (table : Table) (r : Read) → slice_get tables k ≡ Some table → Contains (grid_reads table.grid) r
+        → IsTrue (may_read vars memories table.section r)
+    pub memories_read : (m : ℕ) (memory : Memory) (r : Read) → slice_get memories m ≡ Some memory → Contains (memory_reads (Some memory)) r
+        → IsTrue (on_side vars memories (side_of memory) r)
+    pub first_reads : AllRead (now_of vars monitored) first
+    pub always_reads : AllRead (now_of vars monitored) always
+    pub step_reads : AllRead (step_of vars monitored) step
+    pub has_table : (section : Section) (x : ℕ) → IsTrue (is_of vars (defined_kinds section) x) → IsTrue (list_any (is_for section x) tables)
+    pub one_table : (section : Section) (x k l : ℕ) (a b : Table) → slice_get tables k ≡ Some a → slice_get tables l ≡ Some b
+        → IsTrue (is_for section x a) → IsTrue (is_for section x b) → k ≡ l
+    pub order : ∥ HasOrder vars memories tables ∥₁

@@ -1,5 +1,6 @@
 -- Tests that compute on a set that is written out, and together say that it is checked.
-use Rattle.std.specs.Prelude.{ℕ, ◌-◌, ◌≡◌, ◌==◌, nat_le, nat_lt, ℤ, pos, int_le, unsigned_abs, Bool, true, false, not, ◌&&◌, ◌||◌, List, [], ◌∷◌, ◌++◌, length}
+use Rattle.std.specs.Prelude.{ℕ, ◌-◌, ◌≡◌, ◌==◌, nat_le, nat_lt, ℤ, pos, int_le, unsigned_abs, Bool, true, false, not, ◌&&◌, ◌||◌, List, []}
+use Rattle.std.specs.Prelude.{◌∷◌, ◌++◌, length}
 use Rattle.std.specs.List.{list_all, list_any, sum_by}
 use Rattle.std.specs.Str.{bytes_eq}
 use Rattle.ft_core.specs.declared.tables.Var.{Var}
@@ -51,7 +52,8 @@ is_enum_range count range =
 -- whether a number has no members, and an enum at most 64 names that differ from each other and from what is declared, and their range
 abbrev pub is_typed : List (List ℕ) → Var → Bool
 is_typed declared v =
-    list_all is_set_name v.members && (all_differ bytes_eq v.members && (list_all (λ member. not (list_any (bytes_eq member) declared)) v.members
+    list_all is_set_name v.members && (all_differ bytes_eq v.members &&
+    (list_all (λ member. not (list_any (bytes_eq member) declared)) v.members
     && (nat_le (length v.members) 64 && (length v.members == 0 || is_enum_range (length v.members) v.range))))
 
 -- whether a grid defines variables that pass a test, none twice
@@ -61,13 +63,15 @@ has_targets may (Inverted target terms rows grid) = may target
 has_targets may (Vector columns targets terms) = list_all may targets && all_differ (λ x y. x == y) targets
 
 abbrev pub is_shown : List Var → List Memory → Fact → Bool
-is_shown vars memories (Invariant name cond) = list_all (may_show vars memories) (cond_reads cond) && (is_sized vars memories cond && is_short cond)
+is_shown vars memories (Invariant name cond) = list_all (may_show vars memories) (cond_reads cond)
+    && (is_sized vars memories cond && is_short cond)
 is_shown vars memories (Goal x) = is_of vars controlled x
 
 abbrev pub is_block : List Var → List Memory → List Block → Block → Bool
 is_block vars memories blocks block =
     nat_lt 0 (length block.facts) && (list_all (may_take vars memories) block.takes && (all_differ is_same_take block.takes
-    && (list_all (names_invariant blocks) block.uses && (all_differ is_same_place block.uses && list_all (is_shown vars memories) block.facts))))
+    && (list_all (names_invariant blocks) block.uses && (all_differ is_same_place block.uses
+    && list_all (is_shown vars memories) block.facts))))
 
 -- each field computes: by `refl`, or by `simp` with the equations of terms, sizes and lengths
 pub record PassesChecks (name : List ℕ) (splits depth : ℕ) (vars : List Var) (memories : List Memory) (tables : List Table)
@@ -91,6 +95,7 @@ pub record PassesChecks (name : List ℕ) (splits depth : ℕ) (vars : List Var)
 
 -- what passes the tests is checked
 abbrev pub CheckedByTests : Type 0
-CheckedByTests = (name : List ℕ) (splits depth : ℕ) (vars : List Var) (memories : List Memory) (tables : List Table) (first always step : List Cond)
+CheckedByTests = (name : List ℕ) (splits depth : ℕ) (vars : List Var) (memories : List Memory) (tables : List Table)
+    (first always step : List Cond)
     (blocks : List Block) → PassesChecks name splits depth vars memories tables first always step blocks
     → IsChecked name splits depth vars memories tables first always step blocks

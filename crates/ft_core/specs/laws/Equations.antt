@@ -3,11 +3,14 @@ use Rattle.std.proofs.Common.{◌≡◌, ◌∙◌, sym, ap, subst, ℕ, ℤ, Li
 use Rattle.ft_core.specs.declared.term.Rel.{Rel}
 use Rattle.ft_core.specs.declared.term.Term.{Term, Term-F, map-Term, fold-Term, roll-Term, fold-roll-Term, ind-Term}
 use Rattle.ft_core.specs.declared.term.Term.TheOpen as tl
-use Rattle.ft_core.specs.declared.term.Term.TheVariants.{Num, Now, Prev, Age, Neg, Add, Sub, Times, Div, rolls-Num, rolls-Now, rolls-Prev, rolls-Age, rolls-Neg, rolls-Add, rolls-Sub, rolls-Times, rolls-Div}
+use Rattle.ft_core.specs.declared.term.Term.TheVariants.{Num, Now, Prev, Age, Neg, Add, Sub, Times, Div, rolls-Num, rolls-Now, rolls-Prev}
+use Rattle.ft_core.specs.declared.term.Term.TheVariants.{rolls-Age, rolls-Neg, rolls-Add, rolls-Sub, rolls-Times, rolls-Div}
 use Rattle.ft_core.specs.declared.term.Cond.{Cond, Cond-F, map-Cond, fold-Cond, roll-Cond, fold-roll-Cond, ind-Cond}
 use Rattle.ft_core.specs.declared.term.Cond.TheOpen as cl
-use Rattle.ft_core.specs.declared.term.Cond.TheVariants.{Yes, No, Compare, Memory, Not, And, Or, rolls-Yes, rolls-No, rolls-Compare, rolls-Memory, rolls-Not, rolls-And, rolls-Or}
-use Rattle.ft_core.specs.meaning.Reads.{Read, at_now, at_before, of_memory, of_age, term_reads, layer_term_reads, cond_reads, layer_cond_reads}
+use Rattle.ft_core.specs.declared.term.Cond.TheVariants.{Yes, No, Compare, Memory, Not, And, Or, rolls-Yes, rolls-No, rolls-Compare}
+use Rattle.ft_core.specs.declared.term.Cond.TheVariants.{rolls-Memory, rolls-Not, rolls-And, rolls-Or}
+use Rattle.ft_core.specs.meaning.Reads.{Read, at_now, at_before, of_memory, of_age, term_reads, layer_term_reads, cond_reads}
+use Rattle.ft_core.specs.meaning.Reads.{layer_cond_reads}
 
 -- what holds of each kind of term where it holds of its parts
 pub record TermInductive (P : Term → Type 0) : Type 0 where
@@ -21,7 +24,8 @@ pub record TermInductive (P : Term → Type 0) : Type 0 where
   pub scaled : (c : ℤ) (e : Term) → P e → P (Times c e)
   pub divided : (e : Term) (k : ℤ) → P e → P (Div e k)
 
-of_term_layer : (P : Term → Type 0) → TermInductive P → (y : Term-F ((t : Term) × P t)) → P (roll-Term (map-Term ((t : Term) × P t) Term (λ e. e.0) y))
+of_term_layer : (P : Term → Type 0) → TermInductive P → (y : Term-F ((t : Term) × P t))
+    → P (roll-Term (map-Term ((t : Term) × P t) Term (λ e. e.0) y))
 of_term_layer P h (tl.Num n) = subst P (sym (rolls-Num n)) (h.num n)
 of_term_layer P h (tl.Now x) = subst P (sym (rolls-Now x)) (h.now x)
 of_term_layer P h (tl.Prev x) = subst P (sym (rolls-Prev x)) (h.prev x)
@@ -45,7 +49,8 @@ pub record CondInductive (P : Cond → Type 0) : Type 0 where
   pub both : (a b : Cond) → P a → P b → P (And a b)
   pub either : (a b : Cond) → P a → P b → P (Or a b)
 
-of_layer : (P : Cond → Type 0) → CondInductive P → (y : Cond-F ((c : Cond) × P c)) → P (roll-Cond (map-Cond ((c : Cond) × P c) Cond (λ e. e.0) y))
+of_layer : (P : Cond → Type 0) → CondInductive P → (y : Cond-F ((c : Cond) × P c))
+    → P (roll-Cond (map-Cond ((c : Cond) × P c) Cond (λ e. e.0) y))
 of_layer P h cl.Yes = subst P (sym rolls-Yes) h.yes
 of_layer P h cl.No = subst P (sym rolls-No) h.no
 of_layer P h (cl.Compare r a b) = subst P (sym (rolls-Compare r a b)) (h.compare r a b)
@@ -66,11 +71,13 @@ pub cond_folds : (A : Type 0) (step : Cond-F A → A) (c : Cond) (a_layer : Cond
     → fold-Cond A step c ≡ step (map-Cond Cond A (fold-Cond A step) a_layer)
 cond_folds A step c a_layer is = ap (fold-Cond A step) (sym is) ∙ fold-roll-Cond A step a_layer
 
-pub reads-rolled : (t : Term) (a_layer : Term-F Term) → roll-Term a_layer ≡ t → term_reads t ≡ layer_term_reads (map-Term Term (List Read) term_reads a_layer)
+pub reads-rolled : (t : Term) (a_layer : Term-F Term) → roll-Term a_layer ≡ t → term_reads t
+    ≡ layer_term_reads (map-Term Term (List Read) term_reads a_layer)
 unfolding term_reads
 reads-rolled = term_folds (List Read) layer_term_reads
 
-pub cond_reads-rolled : (c : Cond) (a_layer : Cond-F Cond) → roll-Cond a_layer ≡ c → cond_reads c ≡ layer_cond_reads (map-Cond Cond (List Read) cond_reads a_layer)
+pub cond_reads-rolled : (c : Cond) (a_layer : Cond-F Cond) → roll-Cond a_layer ≡ c → cond_reads c
+    ≡ layer_cond_reads (map-Cond Cond (List Read) cond_reads a_layer)
 unfolding cond_reads
 cond_reads-rolled = cond_folds (List Read) layer_cond_reads
 

@@ -1,5 +1,6 @@
 -- What stands at a place of a list that is made of others, without a tactic: the crates above cite these too.
-use Rattle.std.proofs.Common.{◌≡◌, ◌∙◌, sym, ap, subst, refl, ◌⊎◌, inl, inr, ℕ, zero, suc, ◌<◌, List, [], ◌∷◌, ◌++◌, length, get_or, slice_get, slice_set, Some, Contains, replicate}
+use Rattle.std.proofs.Common.{◌≡◌, ◌∙◌, sym, ap, subst, refl, ◌⊎◌, inl, inr, ℕ, zero, suc, ◌<◌, List, [], ◌∷◌, ◌++◌, length, get_or}
+use Rattle.std.proofs.Common.{slice_get, slice_set, Some, Contains, replicate}
 use Rattle.std.proofs.Math.Nat.{not-suc-le-zero, le_of_suc-le-suc, suc-ne-zero}
 use Rattle.std.proofs.lemmas.Option.{same_Some, none-some, slice_get_within, slice_get_read, slice_get-get_or, get_or_from_slice_get}
 
@@ -20,7 +21,8 @@ on-left (a ∷ xs) ys zero x is = is
 on-left (a ∷ xs) ys (suc i) x is = on-left xs ys i x is
 
 -- an element of a list with one more at its end
-pub of-push : {X : Type 0} (xs : List X) (y : X) (i : ℕ) (x : X) → slice_get (xs ++ y ∷ []) i ≡ Some x → (slice_get xs i ≡ Some x) ⊎ ((i ≡ length xs) × (y ≡ x))
+pub of-push : {X : Type 0} (xs : List X) (y : X) (i : ℕ) (x : X) → slice_get (xs ++ y ∷ []) i ≡ Some x → (slice_get xs i ≡ Some x)
+    ⊎ ((i ≡ length xs) × (y ≡ x))
 of-push [] y zero x is = inr (refl, same_Some y x is)
 of-push [] y (suc i) x is = absurd (none-at i x is)
 of-push (a ∷ xs) y zero x is = inl is
@@ -31,12 +33,17 @@ at-end [] y = refl
 at-end (a ∷ xs) y = at-end xs y
 
 -- an element of a list with one place set
-pub of-set : {X : Type 0} (xs : List X) (i : ℕ) (y : X) (j : ℕ) (x : X) → slice_get (slice_set xs i y) j ≡ Some x → ((j ≡ i) × (y ≡ x)) ⊎ ((j ≡ i → ⊥) × (slice_get xs j ≡ Some x))
+pub of-set : {X : Type 0} (xs : List X) (i : ℕ) (y : X) (j : ℕ) (x : X) → slice_get (slice_set xs i y) j ≡ Some x → ((j ≡ i) × (y ≡ x))
+    ⊎ ((j ≡ i → ⊥) × (slice_get xs j ≡ Some x))
 of-set [] i y j x is = absurd (none-at j x is)
 of-set (a ∷ xs) zero y zero x is = inl (refl, same_Some y x is)
 of-set (a ∷ xs) zero y (suc j) x is = inr (λ e. suc-ne-zero j e, is)
 of-set (a ∷ xs) (suc i) y zero x is = inr (λ e. suc-ne-zero i (sym e), is)
-of-set (a ∷ xs) (suc i) y (suc j) x is = elim (of-set xs i y j x is) [ inl (e, h) ↦ inl (ap suc e, h) | inr (e, h) ↦ inr (λ f. e (ap below f), h) ]
+of-set (a ∷ xs) (suc i) y (suc j) x is = elim (of-set xs i y j x is) [
+  | inl (e, h) ↦ inl (ap suc e, h)
+  | inr (e, h)
+      ↦ inr (λ f. e (ap below f), h)
+]
   where
     below : ℕ → ℕ
     below zero = zero
@@ -66,5 +73,6 @@ some-at (a ∷ xs) zero less = (a, refl)
 some-at (a ∷ xs) (suc i) less = some-at xs i (le_of_suc-le-suc less)
 
 -- the item of a loop over a list stands at its place
-pub item-there : {X : Type 0} (xs items : List X) (i : ℕ) (x : X) → items ≡ xs → i < length items → x ≡ get_or items i x → slice_get xs i ≡ Some x
+pub item-there : {X : Type 0} (xs items : List X) (i : ℕ) (x : X) → items ≡ xs → i < length items → x ≡ get_or items i x → slice_get xs i
+    ≡ Some x
 item-there xs items i x same less is = subst (λ zs. slice_get zs i ≡ Some x) same (slice_get_read items (length items) i x refl less is)

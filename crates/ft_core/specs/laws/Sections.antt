@@ -24,8 +24,10 @@ section_self section.Req = refl
 section_self section.Sof = refl
 section_self section.Out = refl
 
-pub is_for_from : (section : Section) (x : ℕ) (table : Table) → table.section ≡ section → IsTrue (defines table.grid x) → is_for section x table ≡ true
-is_for_from section x table e d = and_from (is_section table.section section) (defines table.grid x) (ap (is_section table.section) (sym e) ∙ section_self table.section) d
+pub is_for_from : (section : Section) (x : ℕ) (table : Table) → table.section ≡ section → IsTrue (defines table.grid x)
+    → is_for section x table ≡ true
+is_for_from section x table e d = and_from (is_section table.section section) (defines table.grid x)
+    (ap (is_section table.section) (sym e) ∙ section_self table.section) d
 
 pub same_side : (a b : Side) → is_side a b ≡ true → a ≡ b
 same_side side.Req side.Req e = refl
@@ -34,6 +36,7 @@ same_side side.Req side.Sof e = absurd (true≢false (sym e))
 same_side side.Sof side.Req e = absurd (true≢false (sym e))
 
 -- a table of a side is one of the requirement or of the design
-pub of_side : (s : Side) (x : ℕ) (table : Table) → is_for (section_of s) x table ≡ true → (is_for section.Req x table || is_for section.Sof x table) ≡ true
+pub of_side : (s : Side) (x : ℕ) (table : Table) → is_for (section_of s) x table ≡ true
+    → (is_for section.Req x table || is_for section.Sof x table) ≡ true
 of_side side.Req x table e = or_left (is_for section.Req x table) (is_for section.Sof x table) e
 of_side side.Sof x table e = or_right (is_for section.Req x table) (is_for section.Sof x table) e

@@ -6,10 +6,12 @@ use Rattle.ft_core.specs.declared.tables.Memory.{Memory}
 use Rattle.ft_core.specs.declared.term.Rel.{Rel}
 use Rattle.ft_core.specs.declared.term.Term.{Term, Term-F, map-Term, roll-Term}
 use Rattle.ft_core.specs.declared.term.Term.TheOpen as tl
-use Rattle.ft_core.specs.declared.term.Term.TheVariants.{Num, Now, Prev, Age, Neg, Add, Sub, Times, Div, rolls-Num, rolls-Now, rolls-Prev, rolls-Age, rolls-Neg, rolls-Add, rolls-Sub, rolls-Times, rolls-Div}
+use Rattle.ft_core.specs.declared.term.Term.TheVariants.{Num, Now, Prev, Age, Neg, Add, Sub, Times, Div, rolls-Num, rolls-Now, rolls-Prev}
+use Rattle.ft_core.specs.declared.term.Term.TheVariants.{rolls-Age, rolls-Neg, rolls-Add, rolls-Sub, rolls-Times, rolls-Div}
 use Rattle.ft_core.specs.declared.term.Cond.{Cond, Cond-F, map-Cond, roll-Cond}
 use Rattle.ft_core.specs.declared.term.Cond.TheOpen as cl
-use Rattle.ft_core.specs.declared.term.Cond.TheVariants.{Yes, No, Compare, Memory as Recalled, Not, And, Or, rolls-Yes, rolls-No, rolls-Compare, rolls-Memory, rolls-Not, rolls-And, rolls-Or}
+use Rattle.ft_core.specs.declared.term.Cond.TheVariants.{Yes, No, Compare, Memory as Recalled, Not, And, Or, rolls-Yes, rolls-No}
+use Rattle.ft_core.specs.declared.term.Cond.TheVariants.{rolls-Compare, rolls-Memory, rolls-Not, rolls-And, rolls-Or}
 use Rattle.ft_core.specs.checked.Size.{Measure, measure, layer_measure, size_of, var_size, age_size, is_sized_term, is_sized, layer_sized}
 use Rattle.ft_core.specs.checked.Short.{leaves, layer_leaves, is_factored, layer_factored, is_short_term, is_short, layer_short}
 use Rattle.ft_core.specs.laws.Equations.{term_folds, cond_folds}
@@ -64,14 +66,16 @@ module _ (vars : List Var) (memories : List Memory) where
   size-Add a b = ap (λ (m : Measure). m.size) (measure-rolled _ (tl.Add a b) (rolls-Add a b))
 
   pub small-Add : (a b : Term) → is_sized_term vars memories (Add a b)
-      ≡ ((is_sized_term vars memories a && is_sized_term vars memories b) && nat_le (size_of vars memories a + size_of vars memories b) 1000000000000000)
+      ≡ ((is_sized_term vars memories a && is_sized_term vars memories b)
+      && nat_le (size_of vars memories a + size_of vars memories b) 1000000000000000)
   small-Add a b = ap (λ (m : Measure). m.small) (measure-rolled _ (tl.Add a b) (rolls-Add a b))
 
   pub size-Sub : (a b : Term) → size_of vars memories (Sub a b) ≡ size_of vars memories a + size_of vars memories b
   size-Sub a b = ap (λ (m : Measure). m.size) (measure-rolled _ (tl.Sub a b) (rolls-Sub a b))
 
   pub small-Sub : (a b : Term) → is_sized_term vars memories (Sub a b)
-      ≡ ((is_sized_term vars memories a && is_sized_term vars memories b) && nat_le (size_of vars memories a + size_of vars memories b) 1000000000000000)
+      ≡ ((is_sized_term vars memories a && is_sized_term vars memories b)
+      && nat_le (size_of vars memories a + size_of vars memories b) 1000000000000000)
   small-Sub a b = ap (λ (m : Measure). m.small) (measure-rolled _ (tl.Sub a b) (rolls-Sub a b))
 
   pub size-Times : (c : ℤ) (e : Term) → size_of vars memories (Times c e) ≡ unsigned_abs c * size_of vars memories e
@@ -94,7 +98,8 @@ module _ (vars : List Var) (memories : List Memory) where
   pub sized-No : is_sized vars memories No ≡ true
   sized-No = sized-rolled _ cl.No rolls-No
 
-  pub sized-Compare : (r : Rel) (a b : Term) → is_sized vars memories (Compare r a b) ≡ (is_sized_term vars memories a && is_sized_term vars memories b)
+  pub sized-Compare : (r : Rel) (a b : Term) → is_sized vars memories (Compare r a b)
+      ≡ (is_sized_term vars memories a && is_sized_term vars memories b)
   sized-Compare r a b = sized-rolled _ (cl.Compare r a b) (rolls-Compare r a b)
 
   pub sized-Memory : (m : ℕ) → is_sized vars memories (Recalled m) ≡ true
@@ -113,7 +118,8 @@ leaves-rolled : (t : Term) (a_layer : Term-F Term) → roll-Term a_layer ≡ t �
 unfolding leaves
 leaves-rolled = term_folds ℕ layer_leaves
 
-factored-rolled : (t : Term) (a_layer : Term-F Term) → roll-Term a_layer ≡ t → is_factored t ≡ layer_factored (map-Term Term Bool is_factored a_layer)
+factored-rolled : (t : Term) (a_layer : Term-F Term) → roll-Term a_layer ≡ t → is_factored t
+    ≡ layer_factored (map-Term Term Bool is_factored a_layer)
 unfolding is_factored
 factored-rolled = term_folds Bool layer_factored
 

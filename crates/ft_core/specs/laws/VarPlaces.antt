@@ -1,5 +1,6 @@
 -- A variable's place among those of some kinds, as a count that goes on from one variable to the next, without a tactic.
-use Rattle.std.proofs.Common.{◌≡◌, ◌∙◌, sym, ap, subst, refl, ⊎_elim, ℕ, zero, suc, ◌+◌, ◌<◌, Bool, true, false, cond, List, [], ◌∷◌, slice_get, Some, true≢false, add-one, suc-le-suc}
+use Rattle.std.proofs.Common.{◌≡◌, ◌∙◌, sym, ap, subst, refl, ⊎_elim, ℕ, zero, suc, ◌+◌, ◌<◌, Bool, true, false, cond, List, [], ◌∷◌}
+use Rattle.std.proofs.Common.{slice_get, Some, true≢false, add-one, suc-le-suc}
 use Rattle.std.specs.Prelude.{IsTrue}
 use Rattle.std.proofs.Math.Nat.{not-suc-le-zero, le_of_suc-le-suc, zero-lt-suc, ne_of_lt, le_antisymm}
 use Rattle.std.proofs.lemmas.Bool.{cases_lt, cond-true, cond-false}
@@ -34,7 +35,8 @@ next-place kinds (u ∷ vars) (suc x) v e =
 module _ (kinds : Kinds) (vars : List Var) (x : ℕ) (v : Var) (e : slice_get vars x ≡ Some v) where
   -- it is one more after one of these kinds, and the same after another
   pub counted : kinds x v ≡ true → place_of kinds vars (x + 1) ≡ place_of kinds vars x + 1
-  counted is = ap (place_of kinds vars) (add-one x) ∙ next-place kinds vars x v e ∙ cond-true (kinds x v) _ _ is ∙ sym (add-one (place_of kinds vars x))
+  counted is = ap (place_of kinds vars) (add-one x) ∙ next-place kinds vars x v e ∙ cond-true (kinds x v) _ _ is
+      ∙ sym (add-one (place_of kinds vars x))
 
   pub passed : kinds x v ≡ false → place_of kinds vars (x + 1) ≡ place_of kinds vars x
   passed other = ap (place_of kinds vars) (add-one x) ∙ next-place kinds vars x v e ∙ cond-false (kinds x v) _ _ other
@@ -89,6 +91,7 @@ same-kinds kind.SofInner kind.SofInner e = refl
 same-kinds a b e = absurd (true≢false (sym e))
 
 -- the place that a variable is said to have is its own among those of its kind
-pub own-place : (S : Tables) (k : VarKind) (x : ℕ) (v : Var) → (slice_get S.vars x ≡ Some v) × IsTrue (of_kind k x v) → v.place ≡ place_of (of_kind k) S.vars x
+pub own-place : (S : Tables) (k : VarKind) (x : ℕ) (v : Var) → (slice_get S.vars x ≡ Some v) × IsTrue (of_kind k x v) → v.place
+    ≡ place_of (of_kind k) S.vars x
 own-place S k x v is = S.sound.places x v is.0
     ∙ ap (λ (kinds : Kinds). place_of kinds S.vars x) (ap of_kind (sym (same-kinds k v.kind is.1)))

@@ -24,7 +24,8 @@ numbered xs = enumerate_from 0 xs
 
 -- the cells of a row, from what stands in each of its columns: the conditions and the term
 abbrev pub row_cells : (row target : ℕ) → List (List Cond × Term) → List Cell
-row_cells row target columns = map (λ c. record { row = row; column = c.0; target = target; conds = c.1.0; term = c.1.1 }) (numbered columns)
+row_cells row target columns = map (λ c. record { row = row; column = c.0; target = target; conds = c.1.0; term = c.1.1 })
+    (numbered columns)
 
 abbrev pub cells : Grid → List Cell
 cells (Normal target columns rows terms) =

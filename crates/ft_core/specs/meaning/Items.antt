@@ -70,6 +70,7 @@ pub record ReadsWhatIsThere (vars : List Var) (memories : List Memory) (tables :
 
 -- where the items of a set have an order by some numbering, the set has the order that is checked
 abbrev pub OrderGivesSetOrder : Type 0
-OrderGivesSetOrder = (vars : List Var) (memories : List Memory) (tables : List Table) (numbers : List ℕ) (reads : List (List ℕ)) (order : List ℕ)
+OrderGivesSetOrder = (vars : List Var) (memories : List Memory) (tables : List Table) (numbers : List ℕ) (reads : List (List ℕ))
+    (order : List ℕ)
     → ReadsWhatIsThere vars memories tables → IsNumbering (length vars + length memories) numbers
     → AreReads (length vars) memories tables numbers reads → IsOrder reads order → HasOrder vars memories tables

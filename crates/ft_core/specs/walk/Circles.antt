@@ -1,5 +1,6 @@
 -- Ways from item to item, and the search for a way back.
-use Rattle.std.specs.Prelude.{ℕ, ◌+◌, ◌-◌, ◌≡◌, ◌<◌, ◌⊎◌, Bool, true, false, if◌then◌else◌, List, [], ◌∷◌, ◌++◌, length, slice_get, slice_set, Some, sum_by}
+use Rattle.std.specs.Prelude.{ℕ, ◌+◌, ◌-◌, ◌≡◌, ◌<◌, ◌⊎◌, Bool, true, false, if◌then◌else◌, List, [], ◌∷◌, ◌++◌, length, slice_get}
+use Rattle.std.specs.Prelude.{slice_set, Some, sum_by}
 use Rattle.ft_core.specs.declared.circle.Search.{Search}
 use Rattle.ft_core.specs.meaning.Order.{ReadsItem}
 

@@ -1,5 +1,6 @@
 -- What items read of each other within a scan, as lists that grow table by table.
-use Rattle.std.specs.Prelude.{ℕ, ◌≡◌, ◌<◌, ◌==◌, Bool, ◌||◌, List, [], ◌++◌, length, map, slice_get, slice_index_or, Some, filter_map, if◌then◌else◌}
+use Rattle.std.specs.Prelude.{ℕ, ◌≡◌, ◌<◌, ◌==◌, Bool, ◌||◌, List, [], ◌++◌, length, map, slice_get, slice_index_or, Some, filter_map}
+use Rattle.std.specs.Prelude.{if◌then◌else◌}
 use Rattle.std.specs.List.{flat_map, zip}
 use Rattle.ft_core.specs.declared.tables.Table.{Table}
 use Rattle.ft_core.specs.declared.tables.Section.{Section}

@@ -1,5 +1,6 @@
 -- The walk that puts items in order and finds the components of items that lead to each other.
-use Rattle.std.specs.Prelude.{ℕ, zero, suc, ◌+◌, ◌≡◌, ◌<◌, ◌≤◌, ◌⊎◌, List, [], ◌∷◌, ◌++◌, length, slice_get, slice_set, slice_index_or, Option, Some, None}
+use Rattle.std.specs.Prelude.{ℕ, zero, suc, ◌+◌, ◌≡◌, ◌<◌, ◌≤◌, ◌⊎◌, List, [], ◌∷◌, ◌++◌, length, slice_get, slice_set, slice_index_or}
+use Rattle.std.specs.Prelude.{Option, Some, None}
 use Rattle.ft_core.specs.declared.walk.Stage.{Stage}
 use Rattle.ft_core.specs.declared.walk.Stage.TheVariants.{New, Open, Done}
 use Rattle.ft_core.specs.declared.walk.Component.{Component}

@@ -9,4 +9,5 @@ use Rattle.ft_mean.specs.meaning.Reading.{Scans, init_of, reading_of}
 pub last-tells : (S : Tables) (kinds : Kinds) (h : Scans) (g : List ℤ) (t x : ℕ) → length h ≡ t
     → reading_of S kinds (h ++ g ∷ []) t x ≡ reading_of S kinds (g ∷ []) 0 x
 last-tells S kinds h g t x e =
-    ap (λ (row : List ℤ). cond (is_of S.vars kinds x) (slice_index_or row (place_of kinds S.vars x) (pos 0)) (init_of S x)) (get_or_push h g [] t e)
+    ap (λ (row : List ℤ). cond (is_of S.vars kinds x) (slice_index_or row (place_of kinds S.vars x) (pos 0)) (init_of S x))
+    (get_or_push h g [] t e)

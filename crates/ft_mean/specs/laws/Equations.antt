@@ -5,17 +5,21 @@ use Rattle.ft_base.specs.Division.{floor_of}
 use Rattle.ft_core.specs.declared.term.Rel.{Rel}
 use Rattle.ft_core.specs.declared.term.Term.{Term, Term-F, map-Term, fold-Term, roll-Term, fold-roll-Term}
 use Rattle.ft_core.specs.declared.term.Term.TheOpen as tl
-use Rattle.ft_core.specs.declared.term.Term.TheVariants.{Num, Now, Prev, Age, Neg, Add, Sub, Times, Div, rolls-Num, rolls-Now, rolls-Prev, rolls-Age, rolls-Neg, rolls-Add, rolls-Sub, rolls-Times, rolls-Div}
+use Rattle.ft_core.specs.declared.term.Term.TheVariants.{Num, Now, Prev, Age, Neg, Add, Sub, Times, Div, rolls-Num, rolls-Now, rolls-Prev}
+use Rattle.ft_core.specs.declared.term.Term.TheVariants.{rolls-Age, rolls-Neg, rolls-Add, rolls-Sub, rolls-Times, rolls-Div}
 use Rattle.ft_core.specs.declared.term.Cond.{Cond, Cond-F, map-Cond, fold-Cond, roll-Cond, fold-roll-Cond}
 use Rattle.ft_core.specs.declared.term.Cond.TheOpen as cl
-use Rattle.ft_core.specs.declared.term.Cond.TheVariants.{Yes, No, Compare, Memory, Not, And, Or, rolls-Yes, rolls-No, rolls-Compare, rolls-Memory, rolls-Not, rolls-And, rolls-Or}
+use Rattle.ft_core.specs.declared.term.Cond.TheVariants.{Yes, No, Compare, Memory, Not, And, Or, rolls-Yes, rolls-No, rolls-Compare}
+use Rattle.ft_core.specs.declared.term.Cond.TheVariants.{rolls-Memory, rolls-Not, rolls-And, rolls-Or}
 use Rattle.ft_mean.specs.meaning.Value.{View, value, layer_value, compares, truth, layer_truth}
 
-value-rolled : (v : View) (e : Term) (layer : Term-F Term) → roll-Term layer ≡ e → value v e ≡ layer_value v (map-Term Term ℤ (value v) layer)
+value-rolled : (v : View) (e : Term) (layer : Term-F Term) → roll-Term layer ≡ e → value v e
+    ≡ layer_value v (map-Term Term ℤ (value v) layer)
 unfolding value
 value-rolled v e layer is = ap (fold-Term ℤ (layer_value v)) (sym is) ∙ fold-roll-Term ℤ (layer_value v) layer
 
-truth-rolled : (v : View) (c : Cond) (layer : Cond-F Cond) → roll-Cond layer ≡ c → truth v c ≡ layer_truth v (map-Cond Cond Bool (truth v) layer)
+truth-rolled : (v : View) (c : Cond) (layer : Cond-F Cond) → roll-Cond layer ≡ c → truth v c
+    ≡ layer_truth v (map-Cond Cond Bool (truth v) layer)
 unfolding truth
 truth-rolled v c layer is = ap (fold-Cond Bool (layer_truth v)) (sym is) ∙ fold-roll-Cond Bool (layer_truth v) layer
 

@@ -29,11 +29,13 @@ SameTruth = (V W : View) (c : Cond) → AllSame V W (cond_reads c) → truth V c
 
 -- so with the conjunction of several conditions
 abbrev pub SameTruths : Type 0
-SameTruths = (V W : View) (conds : List Cond) → AllSame V W (flat_map cond_reads conds) → list_all (truth V) conds ≡ list_all (truth W) conds
+SameTruths = (V W : View) (conds : List Cond) → AllSame V W (flat_map cond_reads conds) → list_all (truth V) conds
+    ≡ list_all (truth W) conds
 
 -- a cell whose reads are alike holds in both views or in neither, and its term has one value
 abbrev pub SameCell : Type 0
-SameCell = (V W : View) (cell : Cell) → AllSame V W (cell_reads cell) → (cell_holds V cell ≡ cell_holds W cell) × (value V cell.term ≡ value W cell.term)
+SameCell = (V W : View) (cell : Cell) → AllSame V W (cell_reads cell) → (cell_holds V cell ≡ cell_holds W cell)
+    × (value V cell.term ≡ value W cell.term)
 
 -- so the same of several cells hold
 abbrev pub SameHolding : Type 0

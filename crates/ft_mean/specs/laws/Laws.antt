@@ -34,7 +34,8 @@ HeldIsFullAge = (from : ℕ) (ago : ℕ → ℤ) (hold : ℤ) (condition : ℕ �
 
 -- along every reading each memory makes its move at each scan
 abbrev pub MemoriesMove : Type 0
-MemoriesMove = (S : Tables) (ρ : Reading) (m : ℕ) (memory : Memory) → slice_get S.memories m ≡ Some memory → (t : ℕ) → MovesAt S ρ m memory t
+MemoriesMove = (S : Tables) (ρ : Reading) (m : ℕ) (memory : Memory) → slice_get S.memories m ≡ Some memory → (t : ℕ)
+    → MovesAt S ρ m memory t
 
 -- an image by a section that looks at one scan alone: a list maps to it exactly where each scan maps to the same scan of it
 abbrev pub GoesByScan : Tables → Section → Kinds → Type 0

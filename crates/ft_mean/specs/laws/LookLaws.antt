@@ -27,7 +27,8 @@ SidesReadNoAge = (S : Tables) (s : Side) (ρ : Reading) (t : ℕ) (r : Read) →
 
 -- a true timer has its condition true, and a band is true at its upper bound and false at its lower one
 abbrev pub LooksAreLinked : Type 0
-LooksAreLinked = (S : Tables) (ρ : Reading) (t m : ℕ) (memory : Memory) → slice_get S.memories m ≡ Some memory → IsLinked (look S ρ t) m memory
+LooksAreLinked = (S : Tables) (ρ : Reading) (t m : ℕ) (memory : Memory) → slice_get S.memories m ≡ Some memory
+    → IsLinked (look S ρ t) m memory
 
 -- two readings have the same values of the variables of these kinds up to scan t
 abbrev pub AgreeUpTo : Tables → Kinds → Reading → Reading → ℕ → Type 0

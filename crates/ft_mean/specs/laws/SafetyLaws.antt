@@ -37,7 +37,8 @@ ListsTellValues = (S : Tables) (kinds : Kinds) (scans : Scans) → IsListOf S ki
 
 -- where the sizes are kept, the environment's clauses can be computed
 abbrev pub ClausesAreSafe : Type 0
-ClausesAreSafe = (S : Tables) (V : View) → KeepsSizes S.vars S.memories V → AreSafeConds V S.first × AreSafeConds V S.always × AreSafeConds V S.step
+ClausesAreSafe = (S : Tables) (V : View) → KeepsSizes S.vars S.memories V → AreSafeConds V S.first × AreSafeConds V S.always
+    × AreSafeConds V S.step
 
 -- and each table
 abbrev pub TablesAreSafe : Type 0
@@ -46,7 +47,8 @@ TablesAreSafe = (S : Tables) (V : View) → KeepsSizes S.vars S.memories V → (
 
 -- and each memory's condition or term
 abbrev pub MemoriesAreSafe : Type 0
-MemoriesAreSafe = (S : Tables) (V : View) → KeepsSizes S.vars S.memories V → (m : ℕ) (memory : Memory) → slice_get S.memories m ≡ Some memory
+MemoriesAreSafe = (S : Tables) (V : View) → KeepsSizes S.vars S.memories V → (m : ℕ) (memory : Memory) → slice_get S.memories m
+    ≡ Some memory
     → IsSafeMemory V memory
 
 -- what is safe by one test is safe by another that follows from it

@@ -1,5 +1,6 @@
 -- Tests of a list of scans and of a trace that compute, and what it says that they pass, without a tactic.
-use Rattle.std.proofs.Common.{◌≡◌, ◌∙◌, sym, ap, subst, ℕ, ◌<◌, ℤ, Bool, true, false, not, ◌||◌, [], length, slice_get, slice_index_or, Some, None, true≢false}
+use Rattle.std.proofs.Common.{◌≡◌, ◌∙◌, sym, ap, subst, ℕ, ◌<◌, ℤ, Bool, true, false, not, ◌||◌, [], length, slice_get, slice_index_or}
+use Rattle.std.proofs.Common.{Some, None, true≢false}
 use Rattle.std.specs.Prelude.{◌==◌}
 use Rattle.std.specs.List.{range_with_len}
 use Rattle.std.specs.Ordering.{int_eq}
@@ -51,7 +52,8 @@ module _ (S : Tables) (kinds : Kinds) (scans : Scans) where
         (through_at (in_range S kinds scans t) (length S.vars) (row t below).1 x (slice_get_within S.vars x v is.0)));
   }
     where
-      row : (t : ℕ) → t < length scans → ((length (slice_index_or scans t []) == count_of kinds S.vars) ≡ true) × (at_all S (in_range S kinds scans t) ≡ true)
+      row : (t : ℕ) → t < length scans → ((length (slice_index_or scans t []) == count_of kinds S.vars) ≡ true)
+          × (at_all S (in_range S kinds scans t) ≡ true)
       row t below = and_parts (length (slice_index_or scans t []) == count_of kinds S.vars) (at_all S (in_range S kinds scans t))
           (through_at (is_row S kinds scans) (length scans) h t below)
 
@@ -69,20 +71,25 @@ module _ (S : Tables) (s : Side) (given trace : Scans) where
   follow = through (length trace) (λ t. at_all S (follows_at t))
 
   -- what passes at each scan and each variable passes at one
-  at_one : (test : ℕ → ℕ → Bool) → through (length trace) (λ t. at_all S (test t)) ≡ true → (t x : ℕ) (v : Var) → t < length trace → slice_get S.vars x ≡ Some v
+  at_one : (test : ℕ → ℕ → Bool) → through (length trace) (λ t. at_all S (test t)) ≡ true → (t x : ℕ) (v : Var) → t < length trace
+      → slice_get S.vars x ≡ Some v
       → test t x ≡ true
   at_one test h t x v below there =
-      through_at (test t) (length S.vars) (through_at (λ t. at_all S (test t)) (length trace) h t below) x (slice_get_within S.vars x v there)
+      through_at (test t) (length S.vars) (through_at (λ t. at_all S (test t)) (length trace) h t below) x
+      (slice_get_within S.vars x v there)
 
   -- a trace that passes the tests fits
-  pub fits : is_list S (given_kinds s) given ≡ true → length trace ≡ length given → is_list S (side_kinds s) trace ≡ true → have_given ≡ true → follow ≡ true
+  pub fits : is_list S (given_kinds s) given ≡ true → length trace ≡ length given → is_list S (side_kinds s) trace ≡ true → have_given
+      ≡ true → follow ≡ true
       → Fits S s given trace
   fits ranges same listed has follows = record {
     is_given = list_is S (given_kinds s) given ranges;
     lengths = same;
     values = list_is S (side_kinds s) trace listed;
     same_given = λ t x v below is. (Decides-int_eq (side_reading S s trace t x) (reading_of S (given_kinds s) given t x)).0
-        (asked_of S (given_kinds s) x v (int_eq (side_reading S s trace t x) (reading_of S (given_kinds s) given t x)) is (at_one (has_given S s given trace) has t x v below is.0));
+        (asked_of S (given_kinds s) x v (int_eq (side_reading S s trace t x) (reading_of S (given_kinds s) given t x)) is
+        (at_one (has_given S s given trace) has t x v below is.0));
     follows = λ t below x v is. asked_of S (defined_kinds (section_of s)) x v
-        (defined S (section_of s) (look S (side_reading S s trace) t) x (side_reading S s trace t x)) is (at_one follows_at follows t x v below is.0);
+        (defined S (section_of s) (look S (side_reading S s trace) t) x (side_reading S s trace t x)) is
+        (at_one follows_at follows t x v below is.0);
   }

@@ -32,7 +32,8 @@ HasTable = (S : Tables) (section : Section) (x : ℕ) (v : Var) → IsVar S (def
 
 -- the cells of a section for a variable are those of any table of it that defines the variable
 abbrev pub CellsAreOfTable : Type 0
-CellsAreOfTable = (S : Tables) (section : Section) (x k : ℕ) (table : Table) → slice_get S.tables k ≡ Some table → IsTrue (is_for section x table)
+CellsAreOfTable = (S : Tables) (section : Section) (x k : ℕ) (table : Table) → slice_get S.tables k ≡ Some table
+    → IsTrue (is_for section x table)
     → cells_of S section x ≡ cells_for x table.grid
 
 -- what a cell reads, its table reads

@@ -24,7 +24,8 @@ ReadsMemory S reads m = (n : ℕ) × ReadsThrough n S reads m
 -- a true timer has its condition true; a band is true at or above its upper bound, and false at or below its lower one
 abbrev pub IsLinked : View → ℕ → Memory → Type 0
 IsLinked V m (Held name side cond hold) = IsTrue (V.memory m) → IsTrue (truth V cond)
-IsLinked V m (Hyst name side e lo hi start) = (IsTrue (int_le hi (value V e)) → IsTrue (V.memory m)) × (IsTrue (int_le (value V e) lo) → IsFalse (V.memory m))
+IsLinked V m (Hyst name side e lo hi start) = (IsTrue (int_le hi (value V e)) → IsTrue (V.memory m))
+    × (IsTrue (int_le (value V e) lo) → IsFalse (V.memory m))
 
 -- a view with every variable in range, now and before, and each memory that is read linked to what it remembers
 pub record IsLocal (S : Tables) (reads : List Read) (V : View) : Type 0 where

@@ -1,5 +1,6 @@
 -- Lists of scans, and what they tell of each variable of the set.
-use Rattle.std.specs.Prelude.{ℕ, zero, suc, ◌-◌, ◌≡◌, ◌<◌, ℤ, pos, ◌*ℤ◌, Bool, true, false, List, [], length, slice_get, slice_index_or, Some, IsTrue, if◌then◌else◌}
+use Rattle.std.specs.Prelude.{ℕ, zero, suc, ◌-◌, ◌≡◌, ◌<◌, ℤ, pos, ◌*ℤ◌, Bool, true, false, List, [], length, slice_get, slice_index_or}
+use Rattle.std.specs.Prelude.{Some, IsTrue, if◌then◌else◌}
 use Rattle.ft_base.specs.Interval.{IsWithin}
 use Rattle.ft_core.specs.declared.tables.Tables.{Tables}
 use Rattle.ft_core.specs.declared.tables.Var.{Var}

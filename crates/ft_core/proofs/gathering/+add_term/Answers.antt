@@ -13,7 +13,9 @@ pub returns-in-Prev : goal.returns-in-Prev
 returns-in-Prev t c = adds-before c.args.counts.vars c.args.counts.memories c.args.term.now c.args.items.now _ c.in-Prev.is
 
 pub returns-in_ok-add_term-in-Add : goal.returns-in_ok-add_term-in-Add
-returns-in_ok-add_term-in-Add t c = adds-last c.args.counts.vars c.args.counts.memories c.add_term-in-Add.result (term_reads c.args.term.now) (term_reads c.get.result.now) (term_reads c.get-in-Add.result.now)
+returns-in_ok-add_term-in-Add t c = adds-last c.args.counts.vars c.args.counts.memories c.add_term-in-Add.result
+    (term_reads c.args.term.now) (term_reads c.get.result.now) (term_reads c.get-in-Add.result.now)
     c.args.items.now c.add_term.new.items c.add_term-in-Add.new.items
-    (reads-either c.args.term.now c.in-Add.a c.in-Add.b c.in-Add.is ∙ (λ i. term_reads (sym c.get.ensures i) ++ term_reads (sym c.get-in-Add.ensures i)))
+    (reads-either c.args.term.now c.in-Add.a c.in-Add.b c.in-Add.is ∙ (λ i. term_reads (sym c.get.ensures i)
+    ++ term_reads (sym c.get-in-Add.ensures i)))
     c.in_ok-add_term-in-Add.ensures c.add_term-in-Add.ensures

@@ -7,6 +7,8 @@ use Rattle.ft_core.proofs.ReadLemmas.{adds_more}
 use Rattle.ft_core.proofs.gathering.add_cond_rows.Goals as goal
 
 pub loop-row-preserved : goal.loop-row-preserved
-loop-row-preserved c = adds_more c.args.counts.vars c.args.counts.memories (flat_map cond_reads) c.args.rows.now c.loop-row.row-index c.row-item.result c.args.items.now c.loop-row.items c.add_conds.new.items
+loop-row-preserved c = adds_more c.args.counts.vars c.args.counts.memories (flat_map cond_reads) c.args.rows.now c.loop-row.row-index
+    c.row-item.result c.args.items.now c.loop-row.items c.add_conds.new.items
     c.loop-row-test.true c.row-item.is c.loop-row.invariant
-    (subst (λ (row : List Cond). Adds c.args.counts.vars c.args.counts.memories (flat_map cond_reads row) c.loop-row.items c.add_conds.new.items) c.as_slice.ensures c.in_ok-add_conds.ensures)
+    (subst (λ (row : List Cond). Adds c.args.counts.vars c.args.counts.memories (flat_map cond_reads row) c.loop-row.items
+    c.add_conds.new.items) c.as_slice.ensures c.in_ok-add_conds.ensures)

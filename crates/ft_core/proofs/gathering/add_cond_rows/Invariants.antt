@@ -5,4 +5,5 @@ use Rattle.ft_core.specs.meaning.Reads.{cond_reads}
 use Rattle.ft_core.proofs.gathering.add_cond_rows.Given as goal
 
 abbrev pub invariant-loop-row : goal.invariant-loop-row
-invariant-loop-row l = Adds l.counts.vars l.counts.memories (flat_map (flat_map cond_reads) (take l.row-index l.rows)) l.initial.items l.items
+invariant-loop-row l = Adds l.counts.vars l.counts.memories (flat_map (flat_map cond_reads) (take l.row-index l.rows)) l.initial.items
+    l.items

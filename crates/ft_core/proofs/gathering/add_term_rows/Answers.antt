@@ -7,6 +7,8 @@ use Rattle.ft_core.proofs.ReadLemmas.{adds_more}
 use Rattle.ft_core.proofs.gathering.add_term_rows.Goals as goal
 
 pub loop-row-preserved : goal.loop-row-preserved
-loop-row-preserved c = adds_more c.args.counts.vars c.args.counts.memories (flat_map term_reads) c.args.rows.now c.loop-row.row-index c.row-item.result c.args.items.now c.loop-row.items c.add_terms.new.items
+loop-row-preserved c = adds_more c.args.counts.vars c.args.counts.memories (flat_map term_reads) c.args.rows.now c.loop-row.row-index
+    c.row-item.result c.args.items.now c.loop-row.items c.add_terms.new.items
     c.loop-row-test.true c.row-item.is c.loop-row.invariant
-    (subst (λ (row : List Term). Adds c.args.counts.vars c.args.counts.memories (flat_map term_reads row) c.loop-row.items c.add_terms.new.items) c.as_slice.ensures c.in_ok-add_terms.ensures)
+    (subst (λ (row : List Term). Adds c.args.counts.vars c.args.counts.memories (flat_map term_reads row) c.loop-row.items
+    c.add_terms.new.items) c.as_slice.ensures c.in_ok-add_terms.ensures)

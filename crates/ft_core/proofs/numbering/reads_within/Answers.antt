@@ -8,10 +8,12 @@ renumbered-requires-clause-items c = are-items c.args.vars c.args.memories.now c
 
 pub returns-clause-reads : goal.returns-clause-reads
 returns-clause-reads c = IfOk-weaker c.renumbered.result _ _
-    (λ lists moved. are-reads-by c.args.vars c.args.memories.now c.args.tables.now c.args.numbers.now c.in_ok-reads.reads lists c.requires.numbering c.in_ok-reads.ensures moved)
+    (λ lists moved. are-reads-by c.args.vars c.args.memories.now c.args.tables.now c.args.numbers.now c.in_ok-reads.reads lists
+    c.requires.numbering c.in_ok-reads.ensures moved)
     c.renumbered.ensures
 
 pub returns-clause-items : goal.returns-clause-items
 returns-clause-items c = IfOk-weaker c.renumbered.result _ _
-    (λ lists moved. are-numbered-items c.args.vars c.args.memories.now c.args.tables.now c.args.numbers.now c.in_ok-reads.reads lists c.requires.numbering c.in_ok-reads.ensures moved)
+    (λ lists moved. are-numbered-items c.args.vars c.args.memories.now c.args.tables.now c.args.numbers.now c.in_ok-reads.reads lists
+    c.requires.numbering c.in_ok-reads.ensures moved)
     c.renumbered.ensures

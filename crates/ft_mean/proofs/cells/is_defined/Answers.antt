@@ -14,15 +14,18 @@ use Rattle.ft_mean.proofs.cells.is_defined.Goals as goal
 pub table_has-requires : goal.table_has-requires
 table_has-requires g c =
     let there : Contains c.args.tables.now.tables c.table-item.result =
-    subst (λ (ts : List Table). Contains ts c.table-item.result) c.as_slice-table-items.ensures (c.loop-table.table-index, c.loop-table-test.true, sym c.table-item.is) in
-    safe_by _ (λ vs ms s. all_pass (λ (t : Table). is_sized_grid vs ms t.grid) c.args.tables.now.tables s c.table-item.result there) c.requires
+    subst (λ (ts : List Table). Contains ts c.table-item.result) c.as_slice-table-items.ensures
+    (c.loop-table.table-index, c.loop-table-test.true, sym c.table-item.is) in
+    safe_by _ (λ vs ms s. all_pass (λ (t : Table). is_sized_grid vs ms t.grid) c.args.tables.now.tables s c.table-item.result there)
+    c.requires
 
 pub returns-then-table_has : goal.returns-then-table_has
 returns-then-table_has g c =
     let fits : FitsSigned w64 c.args.wanted = search rules in
     let here = simp to_z-of_z at c.if-table_has.ensures in
     let there : Contains c.args.tables.now.tables c.table-item.result =
-    subst (λ (ts : List Table). Contains ts c.table-item.result) c.as_slice-table-items.ensures (c.loop-table.table-index, c.loop-table-test.true, sym c.table-item.is) in
+    subst (λ (ts : List Table). Contains ts c.table-item.result) c.as_slice-table-items.ensures
+    (c.loop-table.table-index, c.loop-table-test.true, sym c.table-item.is) in
     sym (defined-gives (g.L.Look.view c.args.look.now) c.args.variable c.args.wanted c.args.tables.now c.args.section
     ∙ any_in (λ t. is_section t.section c.args.section && grid_gives (g.L.Look.view c.args.look.now) c.args.variable c.args.wanted t.grid)
     c.args.tables.now.tables c.table-item.result there here)

@@ -5,4 +5,5 @@ use Rattle.ft_mean.specs.judge.Seen.{grid_gives}
 use Rattle.ft_mean.proofs.cells.is_defined.Given as goal
 
 abbrev pub invariant-loop-table : goal.invariant-loop-table
-invariant-loop-table g l = list_any (λ t. is_section t.section l.section && grid_gives (g.L.Look.view l.look) l.variable l.wanted t.grid) (take l.table-index l.tables.tables) ≡ false
+invariant-loop-table g l = list_any (λ t. is_section t.section l.section && grid_gives (g.L.Look.view l.look) l.variable l.wanted t.grid)
+    (take l.table-index l.tables.tables) ≡ false

@@ -10,19 +10,24 @@ use Rattle.ft_mean.proofs.RecallLemmas.{pair_next, pair_at, pair_end}
 use Rattle.ft_mean.proofs.cells.normal_has.Goals as goal
 
 pub row_has-requires-clause-row : goal.row_has-requires-clause-row
-row_has-requires-clause-row g c = safe_by _ (λ vs ms s. all_pass (is_sized vs ms) c.args.rows.now s c.index-rows-at.result (c.loop-at.at, omega (arith, c.loop-at-test.true, c.min-at-end.ensures), sym c.index-rows-at.is)) c.requires.rows
+row_has-requires-clause-row g c = safe_by _ (λ vs ms s. all_pass (is_sized vs ms) c.args.rows.now s c.index-rows-at.result
+    (c.loop-at.at, omega (arith, c.loop-at-test.true, c.min-at-end.ensures), sym c.index-rows-at.is)) c.requires.rows
 
 pub row_has-requires-clause-terms : goal.row_has-requires-clause-terms
 row_has-requires-clause-terms g c = safe_by _ (λ vs ms s. ap (list_all (is_sized_term vs ms)) c.as_slice.ensures
-    ∙ all_pass (list_all (is_sized_term vs ms)) c.args.terms.now s c.index-terms-at.result (c.loop-at.at, omega (arith, c.loop-at-test.true, c.min-at-end.ensures), sym c.index-terms-at.is)) c.requires.terms
+    ∙ all_pass (list_all (is_sized_term vs ms)) c.args.terms.now s c.index-terms-at.result
+    (c.loop-at.at, omega (arith, c.loop-at-test.true, c.min-at-end.ensures), sym c.index-terms-at.is)) c.requires.terms
 
 pub returns-then-row_has : goal.returns-then-row_has
 returns-then-row_has g c =
     let fits : FitsSigned w64 c.args.wanted = search rules in
     let here = simp to_z-of_z at c.if-row_has.ensures in
-    sym (pair_at (λ r. row_gives (g.L.Look.view c.args.look.now) c.args.wanted r.0 c.args.columns.now r.1) c.args.rows.now c.args.terms.now c.loop-at.at c.index-rows-at.result c.index-terms-at.result
-    (omega (arith, c.loop-at-test.true, c.min-at-end.ensures)) (omega (arith, c.loop-at-test.true, c.min-at-end.ensures)) (sym c.index-rows-at.is) (sym c.index-terms-at.is)
-    (subst (λ (es : List Term). true ≡ (row_gives (g.L.Look.view c.args.look.now) c.args.wanted c.index-rows-at.result c.args.columns.now es)) c.as_slice.ensures here))
+    sym (pair_at (λ r. row_gives (g.L.Look.view c.args.look.now) c.args.wanted r.0 c.args.columns.now r.1) c.args.rows.now c.args.terms.now
+    c.loop-at.at c.index-rows-at.result c.index-terms-at.result
+    (omega (arith, c.loop-at-test.true, c.min-at-end.ensures)) (omega (arith, c.loop-at-test.true, c.min-at-end.ensures))
+    (sym c.index-rows-at.is) (sym c.index-terms-at.is)
+    (subst (λ (es : List Term). true ≡ (row_gives (g.L.Look.view c.args.look.now) c.args.wanted c.index-rows-at.result c.args.columns.now
+    es)) c.as_slice.ensures here))
 
 pub loop-at-preserved : goal.loop-at-preserved
 loop-at-preserved g c =
@@ -30,13 +35,18 @@ loop-at-preserved g c =
     let here = simp to_z-of_z at c.if-row_has.ensures in
     let past = simp to_z-of_z at c.loop-at.invariant in
     let more : c.loop-at.at + 1 ≡ suc c.loop-at.at = omega arith in
-    simp to_z-of_z (ap (λ n. list_any (λ r. row_gives (g.L.Look.view c.args.look.now) c.args.wanted r.0 c.args.columns.now r.1) (take n (zip c.args.rows.now c.args.terms.now))) more
-    ∙ pair_next (λ r. row_gives (g.L.Look.view c.args.look.now) c.args.wanted r.0 c.args.columns.now r.1) c.args.rows.now c.args.terms.now c.loop-at.at c.index-rows-at.result c.index-terms-at.result
-    (omega (arith, c.loop-at-test.true, c.min-at-end.ensures)) (omega (arith, c.loop-at-test.true, c.min-at-end.ensures)) (sym c.index-rows-at.is) (sym c.index-terms-at.is) past
-    (subst (λ (es : List Term). false ≡ (row_gives (g.L.Look.view c.args.look.now) c.args.wanted c.index-rows-at.result c.args.columns.now es)) c.as_slice.ensures here))
+    simp to_z-of_z (ap (λ n. list_any (λ r. row_gives (g.L.Look.view c.args.look.now) c.args.wanted r.0 c.args.columns.now r.1)
+    (take n (zip c.args.rows.now c.args.terms.now))) more
+    ∙ pair_next (λ r. row_gives (g.L.Look.view c.args.look.now) c.args.wanted r.0 c.args.columns.now r.1) c.args.rows.now c.args.terms.now
+    c.loop-at.at c.index-rows-at.result c.index-terms-at.result
+    (omega (arith, c.loop-at-test.true, c.min-at-end.ensures)) (omega (arith, c.loop-at-test.true, c.min-at-end.ensures))
+    (sym c.index-rows-at.is) (sym c.index-terms-at.is) past
+    (subst (λ (es : List Term). false ≡ (row_gives (g.L.Look.view c.args.look.now) c.args.wanted c.index-rows-at.result c.args.columns.now
+    es)) c.as_slice.ensures here))
 
 pub returns : goal.returns
 returns g c =
     let fits : FitsSigned w64 c.args.wanted = search rules in
     let past = simp to_z-of_z at c.loop-at.invariant in
-    sym (pair_end (λ r. row_gives (g.L.Look.view c.args.look.now) c.args.wanted r.0 c.args.columns.now r.1) c.args.rows.now c.args.terms.now c.loop-at.at (omega (arith, c.loop-at-test.false, c.min-at-end.ensures)) past)
+    sym (pair_end (λ r. row_gives (g.L.Look.view c.args.look.now) c.args.wanted r.0 c.args.columns.now r.1) c.args.rows.now c.args.terms.now
+    c.loop-at.at (omega (arith, c.loop-at-test.false, c.min-at-end.ensures)) past)

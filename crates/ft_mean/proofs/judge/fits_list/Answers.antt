@@ -22,21 +22,26 @@ pub recall_all-requires : goal.recall_all-requires
 recall_all-requires c =
     let list = trace_is c.args.tables.now c.args.side c.args.trace.now c.args.given.now (sym c.if-not-are_lists.ensures) in
     subst (λ (seen : Seen). (t : ℕ) → AreSafeMemories (view_at seen t) c.args.tables.now.memories) (sym c.in_ok-start.ensures)
-    (safe_list c.args.tables.now c.args.side c.args.trace.now list (λ vars memories. list_all (is_sized_memory vars memories) c.args.tables.now.memories) c.args.tables.now.sound.sized_memories)
+    (safe_list c.args.tables.now c.args.side c.args.trace.now list (λ vars memories. list_all (is_sized_memory vars memories)
+    c.args.tables.now.memories) c.args.tables.now.sound.sized_memories)
 
 pub follows-requires : goal.follows-requires
 follows-requires c =
     let list = trace_is c.args.tables.now c.args.side c.args.trace.now c.args.given.now (sym c.if-not-are_lists.ensures) in
-    let is = c.in_ok-seen.ensures ∙ ap (after_rounds c.args.tables.now (side_reading c.args.tables.now c.args.side c.args.trace.now) (length c.args.tables.now.vars + length c.args.tables.now.memories)) c.in_ok-start.ensures in
+    let is = c.in_ok-seen.ensures ∙ ap (after_rounds c.args.tables.now (side_reading c.args.tables.now c.args.side c.args.trace.now)
+    (length c.args.tables.now.vars + length c.args.tables.now.memories)) c.in_ok-start.ensures in
     subst (λ (seen : Seen). (t : ℕ) → AreSafeTables (view_at seen t) c.args.tables.now.tables) (sym is)
-    (safe_after c.args.tables.now (side_reading c.args.tables.now c.args.side c.args.trace.now) (scans_of c.args.tables.now (side_reading c.args.tables.now c.args.side c.args.trace.now) (length c.args.trace.now))
+    (safe_after c.args.tables.now (side_reading c.args.tables.now c.args.side c.args.trace.now)
+    (scans_of c.args.tables.now (side_reading c.args.tables.now c.args.side c.args.trace.now) (length c.args.trace.now))
     (length c.args.tables.now.vars + length c.args.tables.now.memories)
     (safe_list c.args.tables.now c.args.side c.args.trace.now list
-    (λ vars memories. list_all (λ (table : Table). is_sized_grid vars memories table.grid) c.args.tables.now.tables) c.args.tables.now.sound.sized_tables))
+    (λ vars memories. list_all (λ (table : Table). is_sized_grid vars memories table.grid) c.args.tables.now.tables)
+    c.args.tables.now.sound.sized_tables))
 
 pub returns : goal.returns
 returns c =
-    let is = c.in_ok-seen.ensures ∙ ap (after_rounds c.args.tables.now (side_reading c.args.tables.now c.args.side c.args.trace.now) (length c.args.tables.now.vars + length c.args.tables.now.memories)) c.in_ok-start.ensures in
+    let is = c.in_ok-seen.ensures ∙ ap (after_rounds c.args.tables.now (side_reading c.args.tables.now c.args.side c.args.trace.now)
+    (length c.args.tables.now.vars + length c.args.tables.now.memories)) c.in_ok-start.ensures in
     subst (λ b. IsTrue b ↔ Fits c.args.tables.now c.args.side c.args.given.now c.args.trace.now)
     (sym (c.follows.ensures ∙ ap (follows_by c.args.tables.now c.args.side c.args.given.now c.args.trace.now) is))
     (judged c.args.tables.now c.args.side c.args.trace.now c.args.given.now (sym c.if-not-are_lists.ensures))

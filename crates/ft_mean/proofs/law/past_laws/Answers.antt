@@ -21,7 +21,8 @@ pub returns-clause-age_begins : goal.returns-clause-age_begins
 returns-clause-age_begins c = age_first
 
 pub returns-clause-age_goes_on : goal.returns-clause-age_goes_on
-returns-clause-age_goes_on c = λ from hold elapsed low up past now t start there later none condition. age_next from hold elapsed low up past now t start there later none condition
+returns-clause-age_goes_on c = λ from hold elapsed low up past now t start there later none condition. age_next from hold elapsed low up
+    past now t start there later none condition
 
 pub returns-clause-held_by_age : goal.returns-clause-held_by_age
 returns-clause-held_by_age c = held_is

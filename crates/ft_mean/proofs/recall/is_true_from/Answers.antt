@@ -11,4 +11,5 @@ returns-then-not-truth_of c =
 
 pub loop-scan-preserved : goal.loop-scan-preserved
 loop-scan-preserved c =
-    all_next (λ j. truth (view_at c.args.seen.now j) c.args.cond.now) c.args.from c.loop-scan.scan c.loop-scan.auto.scan c.loop-scan.invariant (sym c.if-not-truth_of.ensures)
+    all_next (λ j. truth (view_at c.args.seen.now j) c.args.cond.now) c.args.from c.loop-scan.scan c.loop-scan.auto.scan
+    c.loop-scan.invariant (sym c.if-not-truth_of.ensures)

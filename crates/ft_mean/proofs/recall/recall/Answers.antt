@@ -7,7 +7,8 @@ recalled_rows-requires c = safe_again c.args.start c.loop-round.seen c.requires 
 
 pub loop-round-preserved : goal.loop-round-preserved
 loop-round-preserved c = (
-  round_next c.args.known.now.tables.now (reading_by c.args.known.now.tables.now c.args.known.now.scope c.args.known.now.scans.now) c.args.start c.loop-round.seen c.loop-round._round c.in_ok-seen.field-0 c.loop-round.invariant.0 c.in_ok-seen.ensures,
+  round_next c.args.known.now.tables.now (reading_by c.args.known.now.tables.now c.args.known.now.scope c.args.known.now.scans.now)
+      c.args.start c.loop-round.seen c.loop-round._round c.in_ok-seen.field-0 c.loop-round.invariant.0 c.in_ok-seen.ensures,
   c.loop-round.invariant.1,
   c.loop-round.invariant.2,
 )

@@ -8,10 +8,15 @@ use Rattle.ft_mean.proofs.recall.recall_all.Goals as goal
 
 pub recall-requires-2 : goal.recall-requires-2
 recall-requires-2 c =
-    subst (λ (seen : Seen). (t : ℕ) → AreSafeMemories (view_at seen t) c.args.known.now.tables.now.memories) (sym c.in_ok-half.ensures) (safe_after c.args.known.now.tables.now (reading_by c.args.known.now.tables.now c.args.known.now.scope c.args.known.now.scans.now) c.args.start c.len.result c.requires)
+    subst (λ (seen : Seen). (t : ℕ) → AreSafeMemories (view_at seen t) c.args.known.now.tables.now.memories) (sym c.in_ok-half.ensures)
+    (safe_after c.args.known.now.tables.now (reading_by c.args.known.now.tables.now c.args.known.now.scope c.args.known.now.scans.now)
+    c.args.start c.len.result c.requires)
 
 pub returns : goal.returns
 returns c =
-    c.in_ok-seen.ensures ∙ ap (after_rounds c.args.known.now.tables.now (reading_by c.args.known.now.tables.now c.args.known.now.scope c.args.known.now.scans.now) c.len-2.result) c.in_ok-half.ensures
-    ∙ rounds_join c.args.known.now.tables.now (reading_by c.args.known.now.tables.now c.args.known.now.scope c.args.known.now.scans.now) c.args.start c.len-2.result c.len.result
-    ∙ (λ i. after_rounds c.args.known.now.tables.now (reading_by c.args.known.now.tables.now c.args.known.now.scope c.args.known.now.scans.now) (c.len-2.ensures i + c.len.ensures i) c.args.start)
+    c.in_ok-seen.ensures ∙ ap (after_rounds c.args.known.now.tables.now
+    (reading_by c.args.known.now.tables.now c.args.known.now.scope c.args.known.now.scans.now) c.len-2.result) c.in_ok-half.ensures
+    ∙ rounds_join c.args.known.now.tables.now (reading_by c.args.known.now.tables.now c.args.known.now.scope c.args.known.now.scans.now)
+    c.args.start c.len-2.result c.len.result
+    ∙ (λ i. after_rounds c.args.known.now.tables.now (reading_by c.args.known.now.tables.now c.args.known.now.scope
+    c.args.known.now.scans.now) (c.len-2.ensures i + c.len.ensures i) c.args.start)

@@ -9,5 +9,7 @@ use Rattle.ft_mean.proofs.recall.recalled_row.Goals as goal
 pub is_recalled-requires-clause-safe : goal.is_recalled-requires-clause-safe
 is_recalled-requires-clause-safe c = λ t.
     let there : Contains c.args.known.now.tables.now.memories c.memory-item.result =
-    subst (λ (ms : List Memory). Contains ms c.memory-item.result) c.as_slice-memory-items.ensures (c.loop-memory.memory-index, c.loop-memory-test.true, sym c.memory-item.is) in
-    safe_by _ (λ vs ms s. all_pass (is_sized_memory vs ms) c.args.known.now.tables.now.memories s c.memory-item.result there) (c.requires.safe t)
+    subst (λ (ms : List Memory). Contains ms c.memory-item.result) c.as_slice-memory-items.ensures
+    (c.loop-memory.memory-index, c.loop-memory-test.true, sym c.memory-item.is) in
+    safe_by _ (λ vs ms s. all_pass (is_sized_memory vs ms) c.args.known.now.tables.now.memories s c.memory-item.result there)
+    (c.requires.safe t)

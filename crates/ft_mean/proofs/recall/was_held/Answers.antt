@@ -14,7 +14,9 @@ pub returns-then-was_held_from : goal.returns-then-was_held_from
 returns-then-was_held_from c =
     let hold : FitsSigned w64 c.args.hold = search rules in
     let here = simp to_z-of_z at c.if-was_held_from.ensures in
-    sym (some_at (λ j. int_le c.args.hold (since c.args.known.now.tables.now (reading_by c.args.known.now.tables.now c.args.known.now.scope c.args.known.now.scans.now) j c.args.scan) && list_all (λ k. truth (view_at c.args.seen.now k) c.args.cond.now) (scans j c.args.scan))
+    sym (some_at (λ j. int_le c.args.hold (since c.args.known.now.tables.now
+    (reading_by c.args.known.now.tables.now c.args.known.now.scope c.args.known.now.scans.now) j c.args.scan)
+    && list_all (λ k. truth (view_at c.args.seen.now k) c.args.cond.now) (scans j c.args.scan))
     c.args.begun (suc c.args.scan - c.args.begun) c.loop-from.from c.loop-from.auto.from
     (omega (arith, c.loop-from-test.true, c.loop-from.auto.from)) (sym here))
 
@@ -23,5 +25,7 @@ loop-from-preserved c =
     let hold : FitsSigned w64 c.args.hold = search rules in
     let here = simp to_z-of_z at c.if-was_held_from.ensures in
     let past = simp to_z-of_z at c.loop-from.invariant in
-    simp to_z-of_z (none_next (λ j. int_le c.args.hold (since c.args.known.now.tables.now (reading_by c.args.known.now.tables.now c.args.known.now.scope c.args.known.now.scans.now) j c.args.scan) && list_all (λ k. truth (view_at c.args.seen.now k) c.args.cond.now) (scans j c.args.scan))
+    simp to_z-of_z (none_next (λ j. int_le c.args.hold (since c.args.known.now.tables.now
+    (reading_by c.args.known.now.tables.now c.args.known.now.scope c.args.known.now.scans.now) j c.args.scan)
+    && list_all (λ k. truth (view_at c.args.seen.now k) c.args.cond.now) (scans j c.args.scan))
     c.args.begun c.loop-from.from c.loop-from.auto.from past (sym here))

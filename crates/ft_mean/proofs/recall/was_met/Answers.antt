@@ -14,7 +14,8 @@ returns-then-number-hi c =
     let past = simp to_z-of_z at c.loop-back.invariant in
     let is = sym c.value_of-number.ensures in
     let up = simp to_z-of_z at c.if-number-hi.true in
-    sym (past ∙ band_up c.args.lo c.args.hi c.args.start (λ j. value (view_at c.args.seen.now j) c.args.term.now) c.args.begun c.args.scan c.loop-back.back (omega (arith, c.loop-back-test.true))
+    sym (past ∙ band_up c.args.lo c.args.hi c.args.start (λ j. value (view_at c.args.seen.now j) c.args.term.now) c.args.begun c.args.scan
+    c.loop-back.back (omega (arith, c.loop-back-test.true))
     (ap (int_le c.args.hi) is ∙ up))
 
 pub returns-then-number-lo : goal.returns-then-number-lo
@@ -26,7 +27,8 @@ returns-then-number-lo c =
     let is = sym c.value_of-number.ensures in
     let up = simp to_z-of_z at c.if-number-hi.false in
     let down = simp to_z-of_z at c.if-number-lo.true in
-    sym (past ∙ band_down c.args.lo c.args.hi c.args.start (λ j. value (view_at c.args.seen.now j) c.args.term.now) c.args.begun c.args.scan c.loop-back.back (omega (arith, c.loop-back-test.true))
+    sym (past ∙ band_down c.args.lo c.args.hi c.args.start (λ j. value (view_at c.args.seen.now j) c.args.term.now) c.args.begun c.args.scan
+    c.loop-back.back (omega (arith, c.loop-back-test.true))
     (ap (int_le c.args.hi) is ∙ up) (ap (λ z. int_le z c.args.lo) is ∙ down))
 
 pub loop-back-preserved : goal.loop-back-preserved
@@ -38,5 +40,6 @@ loop-back-preserved c =
     let is = sym c.value_of-number.ensures in
     let up = simp to_z-of_z at c.if-number-hi.false in
     let down = simp to_z-of_z at c.if-number-lo.false in
-    simp to_z-of_z (past ∙ band_between c.args.lo c.args.hi c.args.start (λ j. value (view_at c.args.seen.now j) c.args.term.now) c.args.begun c.args.scan c.loop-back.back (omega (arith, c.loop-back-test.true))
+    simp to_z-of_z (past ∙ band_between c.args.lo c.args.hi c.args.start (λ j. value (view_at c.args.seen.now j) c.args.term.now)
+    c.args.begun c.args.scan c.loop-back.back (omega (arith, c.loop-back-test.true))
     (ap (int_le c.args.hi) is ∙ up) (ap (λ z. int_le z c.args.lo) is ∙ down))

@@ -9,5 +9,6 @@ pub loop-variable-preserved : goal.loop-variable-preserved
 loop-variable-preserved c =
     let fits : FitsSigned w64 c.recorded_before.result = search rules in
     let pushed = simp to_z-of_z at c.in_ok-push.ensures.ok in
-    made_next (before c.args.tables.now (reading_of c.args.tables.now (kinds_of c.args.scope) c.args.scans.now) c.args.scan) c.loop-variable.row c.push.new.self c.loop-variable.variable c.recorded_before.result
+    made_next (before c.args.tables.now (reading_of c.args.tables.now (kinds_of c.args.scope) c.args.scans.now) c.args.scan)
+    c.loop-variable.row c.push.new.self c.loop-variable.variable c.recorded_before.result
     c.loop-variable.invariant c.recorded_before.ensures pushed

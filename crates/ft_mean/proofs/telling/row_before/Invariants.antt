@@ -5,4 +5,5 @@ use Rattle.ft_mean.specs.meaning.Reading.{reading_of, before}
 use Rattle.ft_mean.proofs.telling.row_before.Given as goal
 
 abbrev pub invariant-loop-variable : goal.invariant-loop-variable
-invariant-loop-variable l = l.row ≡ map (before l.tables (reading_of l.tables (kinds_of l.scope) l.scans) l.scan) (range_with_len 0 l.variable)
+invariant-loop-variable l = l.row ≡ map (before l.tables (reading_of l.tables (kinds_of l.scope) l.scans) l.scan)
+    (range_with_len 0 l.variable)

@@ -11,5 +11,6 @@ places-preserved c = record {
 
 pub unreachable-requires : goal.unreachable-requires
 unreachable-requires c =
-    no-way-back c.args.reads.now c.args.start c.places.self.met c.places.self.parents c.places.self.seen c.places.at c.places.invariant.search c.places.invariant.read
+    no-way-back c.args.reads.now c.args.start c.places.self.met c.places.self.parents c.places.self.seen c.places.at
+    c.places.invariant.search c.places.invariant.read
     (omega (arith, c.places-test.false, c.len.ensures)) c.requires.leads

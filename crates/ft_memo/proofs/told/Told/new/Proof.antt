@@ -22,15 +22,18 @@ use Rattle.ft_memo.proofs.told.Told.new.Code as code
 
 pub new_spec : {M : Type 1} → statement M
 new_spec 𝓤 𝓛 𝓜 𝓡 wired T L =
-    let R : RattleType = told.the_row (param 0 T) in let F = f.ended T in let args : Args = layouts (a_type ∷ []) (T, tt) in let fn = inst_fn args code.function in
+    let R : RattleType = told.the_row (param 0 T) in let F = f.ended T in let args : Args = layouts (a_type ∷ []) (T, tt) in let fn =
+    inst_fn args code.function in
     let c = f.clauses T 𝓛 𝓜.mem 𝓡.returns in let W = walk_of 𝓛 F tt c in let 𝓣 = tables 𝓤 𝓛.H 𝓜 𝓡 𝓡.env in
     proved 𝓛 F tt c 𝓜 𝓡 tt (key args) fn (code.unfolded 𝓤 𝓛.H 𝓜 𝓡 wired (T, tt)) (λ κs. tt) (λ κs. tt) (λ κs qs bounds a g are.
     let y : W.Ghost = ((κs, qs, bounds, a, tt), g) in
     let made : R.Denot = record { of = record {}; items = [] } in
     let told_val : Val = vstruct (vcons (vstruct vnil) vnil) in
     qed 𝓛 ((raw (alive 𝓛 F.signature κs qs) ⊛ ‵ (owns [] tt tt)) ∷ raw ((c κs a).requires g) ∷ []) ∵ keep ! (0 ∷ []) $ split ! $
-    enter ! 𝓣.C 𝓣.Λ fn [] _ $ alloc_all ! (λ l. pass_all ! refl tt $ sets ! (agg ! (no_more !)) refl (tt, tt) $ sets ! (agg ! (and_then ! (get ! refl) (no_more !))) refl (tt, (tt, tt)) $
+    enter ! 𝓣.C 𝓣.Λ fn [] _ $ alloc_all ! (λ l. pass_all ! refl tt $ sets ! (agg ! (no_more !)) refl (tt, tt) $ sets !
+    (agg ! (and_then ! (get ! refl) (no_more !))) refl (tt, (tt, tt)) $
     returns ! (look_at ! 0 refl) $ free_all ! refl $
     suffices ! _ (ends_at 𝓛 F tt c y told_val made tt tt) $
-    says ! refl $ pure_i ! (R.own_val made (told_val ∷ [])) ((λ vss. (tt, ((λ uss. (tt, tt)), tt))), tt) (((vstruct vnil ∷ [], tt), (refl, ((tt, (refl, tt)), tt))), tt) $
+    says ! refl $ pure_i ! (R.own_val made (told_val ∷ [])) ((λ vss. (tt, ((λ uss. (tt, tt)), tt))), tt)
+    (((vstruct vnil ∷ [], tt), (refl, ((tt, (refl, tt)), tt))), tt) $
     move ! (1 ∷ 2 ∷ 0 ∷ []) $ done !))
