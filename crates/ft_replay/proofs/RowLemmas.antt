@@ -16,7 +16,8 @@ use Rattle.ft_replay.specs.scans.Differing.{DiffersAt, IsAlike, IsDifferent}
 use Rattle.ft_replay.specs.laws.Laws.{Laws}
 use Rattle.ft_replay.specs.scans.Outputs.{AreOutputs}
 use Rattle.ft_replay.specs.scans.Rows.{HasPlaces}
-use Rattle.ft_replay.proofs.CountLemmas.{controlled-of-requirement, counted, goes-with, output-of-design, own-place, passed}
+use Rattle.ft_core.specs.laws.VarPlaces.{counted, own-place, passed}
+use Rattle.ft_replay.proofs.CountLemmas.{controlled-of-requirement, goes-with, output-of-design}
 
 -- the place in a row of the next variable of a side
 pub record IsPlace (S : Tables) (s : Side) (n at : ℕ) : Type 0 where

@@ -11,7 +11,7 @@ use Rattle.ft_core.specs.declared.term.Cond.{Cond}
 use Rattle.ft_core.specs.meaning.Grids.{Cell, cells, cells_for, row_cells, is_shaped}
 use Rattle.ft_core.specs.meaning.Reads.{Read, cond_reads, cell_reads, term_reads}
 use Rattle.ft_core.specs.laws.Places.{contained, place-of, some-at}
-use Rattle.ft_scan.proofs.Ground.{from_one, in_all}
+use Rattle.ft_core.specs.laws.Lists.{from_one, in_all}
 use Rattle.ft_scan.proofs.FoundLemmas.{zip_there, mapped_there}
 use Rattle.ft_scan.proofs.TableLemmas.{all_at}
 

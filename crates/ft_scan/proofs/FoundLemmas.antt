@@ -16,7 +16,7 @@ use Rattle.ft_core.specs.declared.tables.Grid.{Grid}
 use Rattle.ft_core.specs.meaning.Grids.{Cell, cells_for, row_cells, defines}
 use Rattle.ft_mean.specs.meaning.Value.{View, value, truth}
 use Rattle.ft_mean.specs.meaning.Cells.{cell_holds, holding}
-use Rattle.ft_scan.proofs.Ground.{mapped}
+use Rattle.ft_core.specs.laws.Lists.{mapped}
 use Rattle.ft_scan.specs.steps.Found.{IsFirstTrue, IsFound, IsInRow, IsTrueAt}
 
 zip_parts : {A B : Type 0} (xs : List A) (ys : List B) (k : ℕ) (p : A × B) → slice_get (zip xs ys) k ≡ Some p → (slice_get xs k ≡ Some p.0) × (slice_get ys k ≡ Some p.1)

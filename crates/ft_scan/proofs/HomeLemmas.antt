@@ -15,7 +15,7 @@ use Rattle.ft_core.specs.declared.term.Term.{Term}
 use Rattle.ft_core.specs.meaning.Kinds.{defined_kinds, is_of}
 use Rattle.ft_core.specs.meaning.Grids.{defines, is_for, is_section}
 use Rattle.ft_core.specs.laws.Places.{of-set}
-use Rattle.ft_scan.proofs.Ground.{same_section}
+use Rattle.ft_core.specs.laws.Sections.{same_section}
 use Rattle.ft_scan.specs.steps.Homes.{IsHome, AreHomes, IsPart, PutsHomes, PutsRowHomes}
 use Rattle.ft_scan.specs.declared.homes.Home.{Home}
 use Rattle.ft_scan.specs.declared.homes.Home.TheVariants.{Whole, Row}

@@ -15,7 +15,8 @@ use Rattle.ft_mean.specs.meaning.Reading.{Reading}
 use Rattle.ft_mean.specs.meaning.Value.{truth}
 use Rattle.ft_mean.specs.laws.EvaluationLaws.{Same, AllSame}
 use Rattle.ft_mean.specs.laws.TableLaws.{TableOf}
-use Rattle.ft_scan.proofs.Ground.{in_all, is_for_from}
+use Rattle.ft_core.specs.laws.Lists.{in_all}
+use Rattle.ft_core.specs.laws.Sections.{is_for_from}
 use Rattle.ft_scan.specs.declared.plan.Step.{Step}
 use Rattle.ft_scan.specs.declared.plan.Step.TheVariants as step
 use Rattle.ft_scan.specs.declared.frame.Frame.{Frame}

@@ -11,7 +11,7 @@ use Rattle.ft_core.specs.laws.Places.{on-left, at-end, one-at}
 use Rattle.ft_mean.specs.meaning.Reading.{IsVar}
 use Rattle.ft_scan.specs.steps.Put.{ArePlacesIn, AreOnce}
 use Rattle.ft_scan.specs.steps.Stands.{ArePlaces}
-use Rattle.ft_scan.proofs.PlaceLemmas.{next_place}
+use Rattle.ft_core.specs.laws.VarPlaces.{next-place}
 use Rattle.ft_scan.specs.laws.Laws.{Laws}
 
 -- the places of those among the first n variables
@@ -36,7 +36,7 @@ module _ (kinds : Kinds) (vars : List Var) where
     one = omega arith
 
     place : place_of kinds vars (n + 1) ≡ cond (kinds n v) (suc (place_of kinds vars n)) (place_of kinds vars n)
-    place = ap (place_of kinds vars) (sym one) ∙ next_place kinds vars n v there
+    place = ap (place_of kinds vars) (sym one) ∙ next-place kinds vars n v there
 
     -- one more, at the end
     pub listed_more : IsTrue (kinds n v) → AreListed kinds vars (n + 1) (places ++ n ∷ [])

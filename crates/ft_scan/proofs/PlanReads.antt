@@ -19,7 +19,8 @@ use Rattle.ft_core.specs.meaning.Grids.{cells_for, defines, is_section, is_for, 
 use Rattle.ft_core.specs.meaning.Items.{item, item_read, IsScanOrder}
 use Rattle.ft_core.specs.meaning.Reads.{Read, at_now, at_before, of_memory, of_age, cond_reads, memory_reads, grid_reads, cell_reads}
 use Rattle.ft_core.specs.checked.Sound.{side_of, is_side, is_memory_of, on_side, may_read, item_reads}
-use Rattle.ft_scan.proofs.Ground.{in_all, of_side, same_section, same_side, is_for_from}
+use Rattle.ft_core.specs.laws.Lists.{in_all}
+use Rattle.ft_core.specs.laws.Sections.{is_for_from, of_side, same_section, same_side}
 use Rattle.ft_scan.specs.steps.Plan.{IsKnown, AreKnown}
 use Rattle.ft_scan.specs.steps.Planning.{HasMade}
 use Rattle.ft_scan.specs.declared.plan.Planned.{Planned}

@@ -1,5 +1,5 @@
 -- A row in range keeps the sizes of its set, and clauses that read no more hold as in a list.
-use Rattle.std.proofs.Common.{◌≡◌, ◌∙◌, sym, ap, subst, refl, ℕ, ◌≤◌, max, ℤ, pos, negsuc, Bool, true, false, ◌&&◌, List, [], ◌∷◌, ◌++◌, slice_get, Option, Some, None, arith, ⊎_elim, true≢false}
+use Rattle.std.proofs.Common.{◌≡◌, ◌∙◌, sym, ap, subst, refl, ℕ, ◌≤◌, max, ℤ, pos, negsuc, Bool, true, false, ◌&&◌, List, [], ◌∷◌, ◌++◌, slice_get, Option, Some, None, arith, ⊎_elim}
 use Rattle.std.specs.Prelude.{unsigned_abs, if◌then◌else◌}
 use Rattle.std.specs.List.{list_all}
 use Rattle.std.proofs.lemmas.Int.{ints}
@@ -12,15 +12,16 @@ use Rattle.ft_core.specs.declared.tables.Memory.{Memory}
 use Rattle.ft_core.specs.declared.tables.Memory.TheVariants.{Held, Hyst}
 use Rattle.ft_core.specs.declared.term.Cond.{Cond}
 use Rattle.ft_core.specs.meaning.Kinds.{Kinds, monitored, is_of}
-use Rattle.ft_core.specs.meaning.Reads.{Read, at_now, at_before, of_memory, of_age, cond_reads}
+use Rattle.ft_core.specs.meaning.Reads.{Read, cond_reads}
 use Rattle.ft_core.specs.checked.Size.{var_size, age_size, is_sized}
 use Rattle.ft_core.specs.checked.Sound.{AllRead, now_of, step_of}
 use Rattle.ft_mean.specs.meaning.Allowed.{nat_at}
 use Rattle.ft_mean.specs.meaning.Value.{View, truth}
 use Rattle.ft_mean.specs.meaning.Reading.{IsListOf, reading_of, init_of}
 use Rattle.ft_mean.specs.meaning.Memory.{look}
+use Rattle.ft_mean.specs.laws.Alike.{now_alike, step_alike}
 use Rattle.ft_mean.specs.laws.EvaluationLaws.{Same}
-use Rattle.ft_scan.proofs.Ground.{from_one}
+use Rattle.ft_core.specs.laws.Lists.{from_one}
 use Rattle.ft_scan.specs.steps.Rows.{row_view}
 use Rattle.ft_mean.specs.judge.Safe.{KeepsSizes, AreSafeConds}
 use Rattle.ft_scan.specs.laws.Laws.{Laws}
@@ -89,37 +90,22 @@ module _ (L : Laws) where
   clauses_alike may conds V W all same =
       L.same_truths V W conds (λ r c. let at = from_one cond_reads conds r c in same r (all at.0 at.1 r at.2 at.3))
 
-module _ (S : Tables) (V W : View) (now : (x : ℕ) → V.now x ≡ W.now x) where
-  now_alike : (r : Read) → now_of S.vars monitored r ≡ true → Same V W r
-  now_alike (at_now x) may = now x
-  now_alike (at_before x) may = absurd (true≢false (sym may))
-  now_alike (of_memory m) may = absurd (true≢false (sym may))
-  now_alike (of_age m) may = absurd (true≢false (sym may))
-
-  step_alike : ((x : ℕ) → V.before x ≡ W.before x) → (r : Read) → step_of S.vars monitored r ≡ true → Same V W r
-  step_alike past (at_now x) may = now x
-  step_alike past (at_before x) may = past x
-  step_alike past (of_memory m) may = absurd (true≢false (sym may))
-  step_alike past (of_age m) may = absurd (true≢false (sym may))
-
-module _ (L : Laws) where
   -- the clauses at a row are those at the one scan of a list, or at the second of two
   pub begin_is : (S : Tables) (row : List ℤ) → (list_all (truth (row_view S monitored row [] true)) S.always && list_all (truth (row_view S monitored row [] true)) S.first)
       ≡ nat_at S (reading_of S monitored (row ∷ [])) 0
   begin_is S row =
       let V = row_view S monitored row [] true in
       let W = look S (reading_of S monitored (row ∷ [])) 0 in
-      let always = (clauses_alike L) (now_of S.vars monitored) S.always V W S.sound.always_reads (now_alike S V W (λ x. refl)) in
-      let first = (clauses_alike L) (now_of S.vars monitored) S.first V W S.sound.first_reads (now_alike S V W (λ x. refl)) in
+      let always = clauses_alike (now_of S.vars monitored) S.always V W S.sound.always_reads (now_alike S V W (λ x. refl)) in
+      let first = clauses_alike (now_of S.vars monitored) S.first V W S.sound.first_reads (now_alike S V W (λ x. refl)) in
       λ i. always i && first i
 
-module _ (L : Laws) where
   pub follow_is : (S : Tables) (earlier row : List ℤ)
       → (list_all (truth (row_view S monitored row earlier false)) S.always && list_all (truth (row_view S monitored row earlier false)) S.step)
       ≡ nat_at S (reading_of S monitored (earlier ∷ row ∷ [])) 1
   follow_is S earlier row =
       let V = row_view S monitored row earlier false in
       let W = look S (reading_of S monitored (earlier ∷ row ∷ [])) 1 in
-      let always = (clauses_alike L) (now_of S.vars monitored) S.always V W S.sound.always_reads (now_alike S V W (λ x. refl)) in
-      let next = (clauses_alike L) (step_of S.vars monitored) S.step V W S.sound.step_reads (step_alike S V W (λ x. refl) (λ x. refl)) in
+      let always = clauses_alike (now_of S.vars monitored) S.always V W S.sound.always_reads (now_alike S V W (λ x. refl)) in
+      let next = clauses_alike (step_of S.vars monitored) S.step V W S.sound.step_reads (step_alike S V W (λ x. refl) (λ x. refl)) in
       λ i. always i && next i

@@ -42,12 +42,12 @@ pub ago_moved : (S : Tables) (a : Reading) (from n j : ℕ) → ago S.period (n 
 ago_moved S a from n j = let back : (n - from) - j ≡ n - (from + j) = omega arith in ap (λ k. pos k *ℤ S.period) back
 
 -- a scan after another doesn't begin: neither a running memory nor the values before are ever reset, and here they would be
-goes_on : (S : Tables) (a : Reading) (k : ℕ) → begins S a (suc k) ≡ false
-goes_on S a k = refl
+next_follows : (S : Tables) (a : Reading) (k : ℕ) → begins S a (suc k) ≡ false
+next_follows S a k = refl
 
 -- so one scan before it is the scan before
 pub before_next : (S : Tables) (a : Reading) (k x : ℕ) → before S a (suc k) x ≡ a k x
-before_next S a k x = cond-false (begins S a (suc k)) (init_of S x) (a k x) (goes_on S a k)
+before_next S a k x = cond-false (begins S a (suc k)) (init_of S x) (a k x) (next_follows S a k)
 
 module _ (L : Laws) where
   -- so does a band
@@ -73,9 +73,9 @@ module _ (L : Laws) where
   -- and the last scan that begins is that of the scan before
   pub begun_stays : (S : Tables) (a : Reading) (n : ℕ) → begun S a (scan_before n) ≡ begun S a n
   begun_stays S a zero = refl
-  begun_stays S a (suc k) = sym (L.begun_past S a k (goes_on S a k))
+  begun_stays S a (suc k) = sym (L.begun_past S a k (next_follows S a k))
 
   -- and the same for every reading
   pub begun_alike : (S : Tables) (a b : Reading) (n : ℕ) → begun S a n ≡ begun S b n
   begun_alike S a b zero = let l = L.begun_low S a zero in let m = L.begun_low S b zero in omega (arith, l, m)
-  begun_alike S a b (suc k) = L.begun_past S a k (goes_on S a k) ∙ begun_alike S a b k ∙ sym (L.begun_past S b k (goes_on S b k))
+  begun_alike S a b (suc k) = L.begun_past S a k (next_follows S a k) ∙ begun_alike S a b k ∙ sym (L.begun_past S b k (next_follows S b k))

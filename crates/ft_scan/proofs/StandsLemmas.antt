@@ -22,7 +22,8 @@ use Rattle.ft_scan.specs.steps.Put.{ArePut, AreTold}
 use Rattle.ft_scan.specs.steps.Stands.{Kept, Stands, rows_at}
 use Rattle.ft_scan.specs.steps.Told.{IsScan, IsTold, IsRight, RunsFor}
 use Rattle.ft_scan.proofs.ListedLemmas.{listed, listed_at, of_var}
-use Rattle.ft_scan.proofs.LongerLemmas.{reading_last, list_longer, before_alike}
+use Rattle.ft_mean.specs.laws.Ends.{last-tells}
+use Rattle.ft_scan.proofs.LongerLemmas.{list_longer, before_alike}
 use Rattle.ft_scan.proofs.RunLemmas.{runs_alike}
 use Rattle.ft_scan.proofs.SinceLemmas.{before_next}
 use Rattle.ft_scan.specs.laws.Laws.{Laws}
@@ -113,7 +114,7 @@ module _ (L : Laws) (S : Tables) (proper : AllProper S) (sc : Kept) (earlier row
         past_in_range = stands.is_frame.past_in_range;
       };
       past = λ x v is. stands.past x v is ∙ before_alike S (side_reading S sc.side rows) a n x (λ j l. same_past j x l);
-      given = λ x v is. given_value x v is ∙ sym (reading_last S (given_kinds sc.side) earlier given n x (sym stands.fits.lengths)) ∙ sym (fits.same_given n x v (omega (arith, long)) is);
+      given = λ x v is. given_value x v is ∙ sym (last-tells S (given_kinds sc.side) earlier given n x (sym stands.fits.lengths)) ∙ sym (fits.same_given n x v (omega (arith, long)) is);
       found = λ q one l e. absurd (omega (arith, l));
       waits = λ m q l e. (runs_alike L) S (side_reading S sc.side rows) a n same_past m sc.frame (stands.runs m (stands.plan.follows q (step.Memory m) e).there);
     }
@@ -166,7 +167,7 @@ module _ (L : Laws) (S : Tables) (proper : AllProper S) (sc : Kept) (earlier row
     pub given_row : map (λ p. slice_index_or frame.now p (pos 0)) sc.given ≡ given
     given_row = row_is frame.now sc.given given (in_range.widths 0 (omega arith) ∙ sym stands.given_places.count) (λ k p l e.
         let at = (listed_at L) S (given_kinds sc.side) sc.given stands.given_places k p e in
-        sym (told.given p at.0 at.1 ∙ fits.same_given n p at.0 (omega (arith, long)) at.1 ∙ reading_last S (given_kinds sc.side) earlier given n p (sym stands.fits.lengths)
+        sym (told.given p at.0 at.1 ∙ fits.same_given n p at.0 (omega (arith, long)) at.1 ∙ last-tells S (given_kinds sc.side) earlier given n p (sym stands.fits.lengths)
         ∙ L.at_place S (given_kinds sc.side) (given ∷ []) 0 p at.0 at.1 ∙ ap (λ j. slice_index_or given j (pos 0)) at.2))
 
     module _ (values : List ℤ) (width : length values ≡ count_of (side_kinds sc.side) S.vars) (out : AreTold sc.side_variables frame.now (length sc.side_variables) values) where
@@ -177,7 +178,7 @@ module _ (L : Laws) (S : Tables) (proper : AllProper S) (sc : Kept) (earlier row
           width
           (λ x v is. let at = (listed L) S (side_kinds sc.side) sc.side_variables stands.side_places x v is in
           sym (L.at_place S (side_kinds sc.side) (row ∷ []) 0 x v is)
-          ∙ sym (reading_last S (side_kinds sc.side) rows row n x refl)
+          ∙ sym (last-tells S (side_kinds sc.side) rows row n x refl)
           ∙ sym (known x v is)
           ∙ sym (out (place_of (side_kinds sc.side) S.vars x) x (slice_get_within sc.side_variables (place_of (side_kinds sc.side) S.vars x) x at) at))
 

@@ -16,7 +16,7 @@ use Rattle.ft_core.specs.meaning.Grids.{is_for, is_shaped}
 use Rattle.ft_core.specs.meaning.Kinds.{section_of}
 use Rattle.ft_core.specs.laws.Places.{some-at}
 use Rattle.ft_mean.specs.meaning.Value.{View, truth}
-use Rattle.ft_scan.proofs.Ground.{is_for_from}
+use Rattle.ft_core.specs.laws.Sections.{is_for_from}
 use Rattle.ft_scan.specs.steps.Found.{IsFirstTrue, IsTrueAt, IsOpenColumn}
 use Rattle.ft_scan.specs.steps.Plan.{IsVector}
 use Rattle.ft_scan.proofs.TableLemmas.{all_at}

@@ -1,5 +1,5 @@
 -- A history that is written reads back.
-use Rattle.std.proofs.Common.{◌≡◌, ◌∙◌, sym, ap, subst, refl, ℕ, zero, suc, ◌+◌, ◌-◌, ◌<◌, ◌≤◌, ℤ, pos, negsuc, Bool, true, false, ◌==◌, ◌&&◌, cond, List, [], ◌∷◌, ◌++◌, length, map, take, slice_get, slice_index_or, Option, Some, None, arith, inl, inr, unsigned_abs, flat_map, add-one}
+use Rattle.std.proofs.Common.{◌≡◌, ◌∙◌, sym, ap, subst, refl, ℕ, zero, suc, ◌+◌, ◌-◌, ◌<◌, ◌≤◌, ℤ, pos, negsuc, Bool, true, false, ◌==◌, ◌&&◌, cond, List, [], ◌∷◌, ◌++◌, length, map, slice_get, slice_index_or, Option, Some, None, arith, inl, inr, unsigned_abs, flat_map}
 use Rattle.std.proofs.lemmas.Int.{ints}
 use Rattle.std.proofs.Math.Logic.{∥∥₁_elim}
 use Rattle.std.proofs.Props.{props}
@@ -28,13 +28,14 @@ use Rattle.ft_trace.specs.meaning.Field.{field_value}
 use Rattle.ft_trace.specs.rows.Row.{is_monitored}
 use Rattle.ft_trace.specs.meaning.Source.{records_at}
 use Rattle.ft_trace.specs.meaning.Spelling.{IsHeader, Row, SpellAll, SpellsAt, SpellsHistory, records_of}
-use Rattle.ft_trace.specs.rows.Writer.{HasValue, IsMember, field_if}
+use Rattle.ft_trace.specs.rows.Writer.{HasValue, IsMember}
 use Rattle.ft_trace.specs.meaning.Writing.{field_of, fields_by, line_of, member_name, name_of, scan_field, trace_text}
 use Rattle.ft_trace.proofs.HeaderLemmas.{all-at}
 use Rattle.ft_trace.proofs.LineLemmas.{ArePlain, IsPlain, and-first, and-second, line-of-fields, name-plain, named-line, number-plain, plain-by}
 use Rattle.ft_trace.proofs.NumberLemmas.{number-is}
 use Rattle.ft_trace.proofs.Written.{records-written}
-use Rattle.ft_trace.proofs.PlaceLemmas.{filtered, own-place, place-within}
+use Rattle.ft_core.specs.laws.VarPlaces.{own-place}
+use Rattle.ft_trace.proofs.PlaceLemmas.{filtered, place-within}
 
 there-by : (field : Var → List ℕ) (kinds : Kinds) → ((x : ℕ) (v : Var) → kinds x v ≡ is_monitored v)
     → (vars : List Var) (x : ℕ) (v : Var) → slice_get vars x ≡ Some v
@@ -94,27 +95,6 @@ checked : (S : Tables) → AreChecked S.name S.splits S.depth S.vars S.memories 
 unfolding IsChecked
 checked S = S.checked
 
--- one more variable
-more-field : (field : Var → List ℕ) (vars : List Var) (i : ℕ) (v : Var) → slice_get vars i ≡ Some v
-    → fields_by field (take (suc i) vars) ≡ fields_by field (take i vars) ++ field_if field v
-more-field field [] i v e = absurd (none-some v e)
-more-field field (u ∷ us) zero v e = first (is_monitored u) ∙ ap (λ (w : Var). field_if field w) (same_Some u v e)
-  where
-    first : (b : Bool) → map field (cond b (u ∷ []) []) ≡ cond b (field u ∷ []) []
-    first true = refl
-    first false = refl
-more-field field (u ∷ us) (suc i) v e = later (is_monitored u) (more-field field us i v e)
-  where
-    later : (b : Bool) → fields_by field (take (suc i) us) ≡ fields_by field (take i us) ++ field_if field v
-        → map field (cond b (u ∷ filter is_monitored (take (suc i) us)) (filter is_monitored (take (suc i) us)))
-        ≡ map field (cond b (u ∷ filter is_monitored (take i us)) (filter is_monitored (take i us))) ++ field_if field v
-    later true h = ap (λ (t : List (List ℕ)). field u ∷ t) h
-    later false h = h
-
-pub one-field : (field : Var → List ℕ) (vars : List Var) (i : ℕ) (v : Var) → slice_get vars i ≡ Some v
-    → fields_by field (take (i + 1) vars) ≡ fields_by field (take i vars) ++ field_if field v
-one-field field vars i v e = ap (λ n. fields_by field (take n vars)) (add-one i) ∙ more-field field vars i v e
-
 -- a scan of a list is a list of its own
 pub one-scan : (S : Tables) (h : Scans) (t : ℕ) → t < length h → IsListOf S monitored h
     → IsListOf S monitored (slice_index_or h t [] ∷ [])
@@ -137,7 +117,7 @@ module _ (S : Tables) (scan : List ℤ) (list : IsListOf S monitored (scan ∷ [
   value = slice_index_or scan v.place (pos 0)
 
   at-place : slice_index_or scan (place_of monitored S.vars x) (pos 0) ≡ value
-  at-place = ap (λ p. slice_index_or scan p (pos 0)) (sym (own-place S x v is))
+  at-place = ap (λ p. slice_index_or scan p (pos 0)) (sym (own-place S kind.Mon x v is))
 
   in-range : IsWithin v.range value
   in-range = subst (λ (z : ℤ). IsWithin v.range z) (cond-true (is_of S.vars monitored x) _ _ is-of ∙ at-place) (list.ranges 0 x v (omega arith) is)
@@ -185,7 +165,7 @@ module _ (S : Tables) (scan : List ℤ) (list : IsListOf S monitored (scan ∷ [
     field = field_of v value;
     value = value;
     in_row = field-there (scan_field scan) S.vars x v is.0 is.1;
-    in_values = ap (λ p. slice_get scan p) (sym (own-place S x v is)) ∙ slice_get-get_or scan v.place (pos 0) has-value.0;
+    in_values = ap (λ p. slice_get scan p) (sym (own-place S kind.Mon x v is)) ∙ slice_get-get_or scan v.place (pos 0) has-value.0;
     spells = (reads-back, in-range);
   }
 

@@ -1,6 +1,7 @@
 use Rattle.std.proofs.Common.{◌∙◌}
 use Rattle.csv.specs.Records.{fields_of}
-use Rattle.ft_trace.proofs.RowLemmas.{has-place, item-there, one-more, stops}
+use Rattle.ft_core.specs.laws.Places.{item-there}
+use Rattle.ft_trace.proofs.RowLemmas.{has-place, one-more, stops}
 use Rattle.ft_trace.proofs.row.read_fields.Goals as goal
 
 pub read_field-requires-clause-field : goal.read_field-requires-clause-field
