@@ -1,5 +1,6 @@
 -- A list that is replayed goes on by one scan.
-use Rattle.std.proofs.Common.{◌≡◌, ◌∙◌, sym, ap, subst, refl, ℕ, ◌+◌, ◌<◌, ℤ, pos, Bool, true, false, List, [], ◌∷◌, ◌++◌, length, slice_index_or, cond, Option, Some, None, arith, take, ⊎_elim}
+use Rattle.std.proofs.Common.{◌≡◌, ◌∙◌, sym, subst, refl, ℕ, ◌+◌, ◌<◌, ℤ, Bool, true, false, List, [], ◌∷◌, ◌++◌, length, slice_index_or}
+use Rattle.std.proofs.Common.{Option, Some, None, arith, take, ⊎_elim}
 use Rattle.std.specs.Prelude.{IsTrue, MatchBool}
 use Rattle.std.specs.List.{last_or}
 use Rattle.std.proofs.lemmas.Bool.{cases_lt}
@@ -8,11 +9,12 @@ use Rattle.ft_core.specs.declared.tables.Tables.{Tables}
 use Rattle.ft_core.specs.declared.tables.Section.{Section}
 use Rattle.ft_core.specs.declared.tables.Side.TheVariants as side
 use Rattle.ft_core.specs.declared.tables.Section.TheVariants as section
-use Rattle.ft_core.specs.meaning.Kinds.{Kinds, controlled, is_of, monitored, outputs, place_of, side_kinds}
+use Rattle.ft_core.specs.meaning.Kinds.{Kinds, controlled, monitored, outputs, side_kinds}
 use Rattle.ft_mean.specs.meaning.Allowed.{nat_at}
 use Rattle.ft_mean.specs.meaning.Fits.{InputMap, Maps}
+use Rattle.ft_mean.specs.laws.Ends.{last-tells}
 use Rattle.ft_mean.specs.laws.Laws.{GoesByScan}
-use Rattle.ft_mean.specs.meaning.Reading.{Scans, init_of, reading_of}
+use Rattle.ft_mean.specs.meaning.Reading.{Scans, reading_of}
 use Rattle.ft_mean.specs.meaning.Refines.{SameAt}
 use Rattle.ft_scan.specs.meaning.Allowing.{nat_after}
 use Rattle.ft_replay.specs.scans.Differing.{DiffersAt, IsFirst, first_with}
@@ -36,13 +38,6 @@ maps-more S section kinds by list image a b maps one =
     (subst (λ (x : List ℤ). Maps S section kinds (a ∷ []) (x ∷ []))
     (sym (get_or_push image b [] t (omega (arith, l, most, length_push list a, maps.lengths)))) one))
     (cases_lt t (length list)))
-
--- the last scan tells what it tells alone
-pub last-tells : (S : Tables) (kinds : Kinds) (h : Scans) (g : List ℤ) (t x : ℕ) → length h ≡ t
-    → reading_of S kinds (h ++ g ∷ []) t x ≡ reading_of S kinds (g ∷ []) 0 x
-last-tells S kinds h g t x e =
-    ap (λ (row : List ℤ). cond (is_of S.vars kinds x) (slice_index_or row (place_of kinds S.vars x) (pos 0)) (init_of S x))
-    (get_or_push h g [] t e)
 
 module _ (L : Laws) where
   -- the outputs of a design trace go on with it

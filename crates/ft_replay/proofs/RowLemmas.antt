@@ -1,5 +1,6 @@
 -- What is known of the rows of a scan after each variable.
-use Rattle.std.proofs.Common.{◌≡◌, ◌∙◌, sym, ap, subst, refl, ℕ, ◌+◌, ◌<◌, ◌≤◌, ℤ, pos, Bool, true, false, cond, List, [], ◌∷◌, length, slice_get, slice_index_or, slice_set, Some, arith, ⊎_elim, true≢false}
+use Rattle.std.proofs.Common.{◌≡◌, ◌∙◌, sym, ap, subst, refl, ℕ, ◌+◌, ◌<◌, ◌≤◌, ℤ, pos, Bool, true, false, cond, List, [], ◌∷◌, length}
+use Rattle.std.proofs.Common.{slice_get, slice_index_or, slice_set, Some, arith, ⊎_elim, true≢false}
 use Rattle.std.specs.Prelude.{IsTrue, MatchBool}
 use Rattle.std.proofs.lemmas.Bool.{cases_lt}
 use Rattle.std.proofs.lemmas.List.{get_or-set_other, get_or-set_same, length-set}
@@ -16,7 +17,8 @@ use Rattle.ft_replay.specs.scans.Differing.{DiffersAt, IsAlike, IsDifferent}
 use Rattle.ft_replay.specs.laws.Laws.{Laws}
 use Rattle.ft_replay.specs.scans.Outputs.{AreOutputs}
 use Rattle.ft_replay.specs.scans.Rows.{HasPlaces}
-use Rattle.ft_replay.proofs.CountLemmas.{controlled-of-requirement, counted, goes-with, output-of-design, own-place, passed}
+use Rattle.ft_core.specs.laws.VarPlaces.{counted, own-place, passed}
+use Rattle.ft_replay.proofs.CountLemmas.{controlled-of-requirement, goes-with, output-of-design}
 
 -- the place in a row of the next variable of a side
 pub record IsPlace (S : Tables) (s : Side) (n at : ℕ) : Type 0 where

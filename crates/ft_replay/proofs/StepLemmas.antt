@@ -18,7 +18,8 @@ use Rattle.ft_replay.specs.laws.Laws.{Laws}
 use Rattle.ft_replay.specs.scans.Outputs.{AreOutputs}
 use Rattle.ft_replay.specs.scans.BothRan.{BothRan, Ran}
 use Rattle.ft_replay.proofs.CountLemmas.{output-of-design}
-use Rattle.ft_replay.proofs.LongerLemmas.{clauses-more, first-more, in-map-more, last-tells, out-map-more, outputs-more}
+use Rattle.ft_mean.specs.laws.Ends.{last-tells}
+use Rattle.ft_replay.proofs.LongerLemmas.{clauses-more, first-more, in-map-more, out-map-more, outputs-more}
 
 -- the rows that a scanner of this set and side told fit what it was given
 ran-fits : (S : Tables) (k : Side) (old new : Scanning) (given row : List ℤ) → old.set ≡ S → old.side ≡ k → Ran old new given row

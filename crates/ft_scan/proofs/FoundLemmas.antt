@@ -1,5 +1,6 @@
 -- What is found first, or in a row, is found among the cells of a table.
-use Rattle.std.proofs.Common.{◌≡◌, ◌∙◌, sym, ap, subst, refl, ℕ, zero, suc, ◌+◌, ◌<◌, ℤ, Bool, true, false, cond, ◌&&◌, List, [], ◌∷◌, ◌++◌, map, length, slice_get, slice_index_or, Option, Some, None, arith, ⊎_elim}
+use Rattle.std.proofs.Common.{◌≡◌, ◌∙◌, sym, ap, subst, refl, ℕ, zero, suc, ◌+◌, ◌<◌, ℤ, Bool, true, false, cond, ◌&&◌, List, [], ◌∷◌, ◌++◌}
+use Rattle.std.proofs.Common.{map, length, slice_get, slice_index_or, Option, Some, None, arith, ⊎_elim}
 use Rattle.std.specs.Prelude.{filter, ◌==◌}
 use Rattle.std.specs.List.{All, find, list_any, list_all, flat_map, zip, enumerate_from, position_or_len}
 use Rattle.std.specs.Option.{option_map}
@@ -17,10 +18,11 @@ use Rattle.ft_core.specs.meaning.Grids.{Cell, cells, cells_for, row_cells, term_
 use Rattle.ft_core.specs.laws.CellTerms.{term-there, zip-parts}
 use Rattle.ft_mean.specs.meaning.Value.{View, value, truth}
 use Rattle.ft_mean.specs.meaning.Cells.{cell_holds, holding}
-use Rattle.ft_scan.proofs.Ground.{mapped}
+use Rattle.ft_core.specs.laws.Lists.{mapped}
 use Rattle.ft_scan.specs.steps.Found.{IsFound, IsInRow, IsTrueAt}
 
-pub zip_there : {A B : Type 0} (xs : List A) (ys : List B) (k : ℕ) (x : A) (y : B) → slice_get xs k ≡ Some x → slice_get ys k ≡ Some y → slice_get (zip xs ys) k ≡ Some (x, y)
+pub zip_there : {A B : Type 0} (xs : List A) (ys : List B) (k : ℕ) (x : A) (y : B) → slice_get xs k ≡ Some x → slice_get ys k ≡ Some y
+    → slice_get (zip xs ys) k ≡ Some (x, y)
 zip_there [] ys k x y e f = absurd (none-some x e)
 zip_there (a ∷ xs) [] k x y e f = absurd (none-some y f)
 zip_there (a ∷ xs) (b ∷ ys) zero x y e f = let i = same_Some a x e in let j = same_Some b y f in λ k. Some (i k, j k)
@@ -49,10 +51,11 @@ module _ (V : View) (x : ℕ) where
       ∙ filter-append (cell_holds V) (filter (λ c. c.target == x) xs) (filter (λ c. c.target == x) ys)
 
   kept_shut : (c : Cell) (cs : List Cell) → cell_holds V c ≡ false → kept (c ∷ cs) ≡ kept cs
-  kept_shut c cs e = elim (c.target == x) as (λ b. holding V (cond b (c ∷ filter (λ d. d.target == x) cs) (filter (λ d. d.target == x) cs)) ≡ kept cs) [
-    | true ↦ cond-false (cell_holds V c) (c ∷ kept cs) (kept cs) e
-    | false ↦ refl
-  ]
+  kept_shut c cs e = elim (c.target == x) as (λ b. holding V (cond b (c ∷ filter (λ d. d.target == x) cs) (filter (λ d. d.target == x) cs))
+      ≡ kept cs) [
+        | true ↦ cond-false (cell_holds V c) (c ∷ kept cs) (kept cs) e
+        | false ↦ refl
+      ]
 
   kept_other : (c : Cell) (cs : List Cell) → (c.target == x) ≡ false → kept (c ∷ cs) ≡ kept cs
   kept_other c cs e = ap (holding V) (cond-false (c.target == x) (c ∷ filter (λ d. d.target == x) cs) (filter (λ d. d.target == x) cs) e)
@@ -71,7 +74,8 @@ module _ (V : View) (x : ℕ) where
       (λ other. ap (list_any (λ d. int_eq z (value V d.term))) (kept_other c cs other) ∙ h)
       (cases_Bool (c.target == x))
 
-  none_all : {A : Type 0} (f : ℕ × A → List Cell) (n : ℕ) (xs : List A) → ((m k : ℕ) (a : A) → slice_get xs k ≡ Some a → kept (f (m, a)) ≡ [])
+  none_all : {A : Type 0} (f : ℕ × A → List Cell) (n : ℕ) (xs : List A)
+      → ((m k : ℕ) (a : A) → slice_get xs k ≡ Some a → kept (f (m, a)) ≡ [])
       → kept (flat_map f (enumerate_from n xs)) ≡ []
   none_all f n [] h = refl
   none_all f n (a ∷ xs) h =
@@ -79,7 +83,8 @@ module _ (V : View) (x : ℕ) where
       let more = none_all f (n + 1) xs (λ m k b e. h m (suc k) b e) in
       kept_append (f (n, a)) (flat_map f (enumerate_from (n + 1) xs)) ∙ (λ i. here i ++ more i)
 
-  gives_one : {A : Type 0} (z : ℤ) (f : ℕ × A → List Cell) (n : ℕ) (xs : List A) (k : ℕ) (a : A) → slice_get xs k ≡ Some a → ((m : ℕ) → Gives z (f (m, a)))
+  gives_one : {A : Type 0} (z : ℤ) (f : ℕ × A → List Cell) (n : ℕ) (xs : List A) (k : ℕ) (a : A) → slice_get xs k ≡ Some a
+      → ((m : ℕ) → Gives z (f (m, a)))
       → Gives z (flat_map f (enumerate_from n xs))
   gives_one z f n [] k a e h = absurd (none-some a e)
   gives_one z f n (b ∷ xs) zero a e h =
@@ -95,27 +100,34 @@ module _ (V : View) (x : ℕ) where
   abbrev made : (i target : ℕ) → ℕ × (List Cond × Term) → Cell
   made i target c = record { row = i; column = c.0; target = target; conds = c.1.0; term = c.1.1 }
 
-  row_none : (i target n : ℕ) (columns : List (List Cond × Term)) → ((k : ℕ) (c : List Cond × Term) → slice_get columns k ≡ Some c → list_all (truth V) c.0 ≡ false)
+  row_none : (i target n : ℕ) (columns : List (List Cond × Term)) → ((k : ℕ) (c : List Cond × Term) → slice_get columns k ≡ Some c
+      → list_all (truth V) c.0 ≡ false)
       → kept (map (made i target) (enumerate_from n columns)) ≡ []
   row_none i target n [] h = refl
   row_none i target n (c ∷ cs) h =
-      kept_shut (made i target (n, c)) (map (made i target) (enumerate_from (n + 1) cs)) (h 0 c refl) ∙ row_none i target (n + 1) cs (λ k d e. h (suc k) d e)
+      kept_shut (made i target (n, c)) (map (made i target) (enumerate_from (n + 1) cs)) (h 0 c refl)
+      ∙ row_none i target (n + 1) cs (λ k d e. h (suc k) d e)
 
-  row_other : (i target n : ℕ) (columns : List (List Cond × Term)) → (target == x) ≡ false → kept (map (made i target) (enumerate_from n columns)) ≡ []
+  row_other : (i target n : ℕ) (columns : List (List Cond × Term)) → (target == x) ≡ false
+      → kept (map (made i target) (enumerate_from n columns)) ≡ []
   row_other i target n [] other = refl
   row_other i target n (c ∷ cs) other =
       kept_other (made i target (n, c)) (map (made i target) (enumerate_from (n + 1) cs)) other ∙ row_other i target (n + 1) cs other
 
-  row_gives : (i target n : ℕ) (columns : List (List Cond × Term)) (k : ℕ) (c : List Cond × Term) → (target == x) ≡ true → slice_get columns k ≡ Some c
+  row_gives : (i target n : ℕ) (columns : List (List Cond × Term)) (k : ℕ) (c : List Cond × Term) → (target == x) ≡ true
+      → slice_get columns k ≡ Some c
       → list_all (truth V) c.0 ≡ true → Gives (value V c.1) (map (made i target) (enumerate_from n columns))
   row_gives i target n [] k c mine e h = absurd (none-some c e)
   row_gives i target n (d ∷ cs) zero c mine e h =
       let is : d ≡ c = same_Some d c e in
-      subst (λ (b : List Cond × Term). Gives (value V c.1) (made i target (n, b) ∷ map (made i target) (enumerate_from (n + 1) cs))) (sym is)
-      (ap (list_any (λ b. int_eq (value V c.1) (value V b.term))) (kept_open (made i target (n, c)) (map (made i target) (enumerate_from (n + 1) cs)) mine h)
+      subst (λ (b : List Cond × Term). Gives (value V c.1) (made i target (n, b) ∷ map (made i target) (enumerate_from (n + 1) cs)))
+      (sym is)
+      (ap (list_any (λ b. int_eq (value V c.1) (value V b.term))) (kept_open (made i target (n, c))
+      (map (made i target) (enumerate_from (n + 1) cs)) mine h)
       ∙ or_left (int_eq (value V c.1) (value V c.1)) _ ((Decides-int_eq (value V c.1) (value V c.1)).1 refl))
   row_gives i target n (d ∷ cs) (suc k) c mine e h =
-      gives_more (value V c.1) (made i target (n, d)) (map (made i target) (enumerate_from (n + 1) cs)) (row_gives i target (n + 1) cs k c mine e h)
+      gives_more (value V c.1) (made i target (n, d)) (map (made i target) (enumerate_from (n + 1) cs))
+      (row_gives i target (n + 1) cs k c mine e h)
 
   abbrev alone : Cond → List Cond
   alone c = c ∷ []
@@ -138,21 +150,26 @@ module _ (V : View) (x : ℕ) where
 
   -- no row up to this one has a cell that holds
   abbrev pub VectorNone : (columns : List Cond) (targets : List ℕ) (terms : List (List Term)) → ℕ → Type 0
-  VectorNone columns targets terms k = (i : ℕ) → i < k → (t : ℕ) → slice_get targets i ≡ Some t → (t == x) ≡ true → IsInRow V columns (slice_index_or terms i []) None
+  VectorNone columns targets terms k = (i : ℕ) → i < k → (t : ℕ) → slice_get targets i ≡ Some t → (t == x) ≡ true
+      → IsInRow V columns (slice_index_or terms i []) None
 
   pub vector_none : (columns : List Cond) (targets : List ℕ) (terms : List (List Term)) → VectorNone columns targets terms (length targets)
       → IsFound V (cells_for x (Vector columns targets terms)) None
-  vector_none columns targets terms none = none_all (λ r. row_cells r.0 r.1.0 (zip (map (λ column. column ∷ []) columns) r.1.1)) 0 (zip targets terms) (λ m k p e.
+  vector_none columns targets terms none = none_all (λ r. row_cells r.0 r.1.0 (zip (map (λ column. column ∷ []) columns) r.1.1)) 0
+      (zip targets terms) (λ m k p e.
       let parts = zip-parts targets terms k p e in
       ⊎_elim
-      (λ mine. bare_none m p.0 columns p.1 (subst (λ es. IsInRow V columns es None) (get_or_from_slice_get terms k p.1 [] parts.1) (none k (slice_get_within targets k p.0 parts.0) p.0 parts.0 mine)))
+      (λ mine. bare_none m p.0 columns p.1 (subst (λ es. IsInRow V columns es None) (get_or_from_slice_get terms k p.1 [] parts.1)
+      (none k (slice_get_within targets k p.0 parts.0) p.0 parts.0 mine)))
       (λ other. row_other m p.0 0 (zip (map (λ column. column ∷ []) columns) p.1) other)
       (cases_Bool (p.0 == x)))
 
-  pub vector_gives : (columns : List Cond) (targets : List ℕ) (terms : List (List Term)) (i t : ℕ) (z : ℤ) → slice_get targets i ≡ Some t → (t == x) ≡ true
+  pub vector_gives : (columns : List Cond) (targets : List ℕ) (terms : List (List Term)) (i t : ℕ) (z : ℤ) → slice_get targets i ≡ Some t
+      → (t == x) ≡ true
       → IsInRow V columns (slice_index_or terms i []) (Some z) → IsFound V (cells_for x (Vector columns targets terms)) (Some z)
   vector_gives columns targets terms i t z there mine in_row =
-      gives_one z (λ r. row_cells r.0 r.1.0 (zip (map (λ column. column ∷ []) columns) r.1.1)) 0 (zip targets terms) i (t, slice_index_or terms i [])
+      gives_one z (λ r. row_cells r.0 r.1.0 (zip (map (λ column. column ∷ []) columns) r.1.1)) 0 (zip targets terms) i
+      (t, slice_index_or terms i [])
       (zip_there targets terms i t (slice_index_or terms i []) there (inside terms i in_row.0 in_row.2 in_row.4))
       (λ m. bare_gives m t columns (slice_index_or terms i []) z mine in_row)
 

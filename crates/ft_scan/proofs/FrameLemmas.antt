@@ -1,5 +1,6 @@
 -- What a step asks of a frame, and that what it makes is what it must leave.
-use Rattle.std.proofs.Common.{◌≡◌, ◌∙◌, sym, ap, subst, refl, ℕ, ℤ, pos, Bool, true, false, List, [], length, slice_get, slice_index_or, slice_set, Option, Some, None, arith, ⊎_elim, true≢false}
+use Rattle.std.proofs.Common.{◌≡◌, ◌∙◌, sym, ap, subst, refl, ℕ, ℤ, pos, Bool, true, false, List, [], length, slice_get, slice_index_or}
+use Rattle.std.proofs.Common.{slice_set, Option, Some, None, arith, ⊎_elim, true≢false}
 use Rattle.std.specs.Prelude.{IsTrue, unwrap_or}
 use Rattle.std.specs.List.{list_all}
 use Rattle.std.proofs.lemmas.Bool.{and_parts}
@@ -33,7 +34,8 @@ use Rattle.ft_scan.proofs.TableLemmas.{all_at, for_it, grid_safe, found_defined,
 use Rattle.ft_scan.specs.laws.Laws.{Laws}
 
 -- a list of numbers has 0 at each place where another of its length has nothing
-past_end : {X : Type 0} (xs : List X) (ys : List ℤ) (x : ℕ) → length ys ≡ length xs → slice_get xs x ≡ None → slice_index_or ys x (pos 0) ≡ pos 0
+past_end : {X : Type 0} (xs : List X) (ys : List ℤ) (x : ℕ) → length ys ≡ length xs → slice_get xs x ≡ None → slice_index_or ys x (pos 0)
+    ≡ pos 0
 past_end xs ys x same none = ⊎_elim
     (λ there. absurd (none-some there.0 (sym none ∙ there.2)))
     (λ out. sym (unwrap_or-slice_get ys x (pos 0)) ∙ ap (λ o. unwrap_or o (pos 0)) (slice_get_past ys x (omega (arith, out.0, same))))
@@ -43,7 +45,8 @@ module _ (S : Tables) (frame : Frame) (is : IsFrameOf S frame) where
   pub frame_keeps : KeepsSizes S.vars S.memories (view_of frame)
   frame_keeps = record {
     now = value_size S.vars (λ x. slice_index_or frame.now x (pos 0)) is.now_in_range (λ x none. past_end S.vars frame.now x is.now none);
-    before = value_size S.vars (λ x. slice_index_or frame.past x (pos 0)) is.past_in_range (λ x none. past_end S.vars frame.past x is.past none);
+    before = value_size S.vars (λ x. slice_index_or frame.past x (pos 0)) is.past_in_range
+        (λ x none. past_end S.vars frame.past x is.past none);
     age = λ m. no_age (slice_get S.memories m);
   }
 
@@ -59,7 +62,8 @@ module _ (S : Tables) (frame : Frame) (is : IsFrameOf S frame) where
   }
 
 -- the table at the place of a vector table is that one
-grid_at : (S : Tables) (s : Side) (place : ℕ) (table : Table) (columns : List Cond) (targets : List ℕ) (terms : List (List Term)) → slice_get S.tables place ≡ Some table
+grid_at : (S : Tables) (s : Side) (place : ℕ) (table : Table) (columns : List Cond) (targets : List ℕ) (terms : List (List Term))
+    → slice_get S.tables place ≡ Some table
     → IsVector S s place columns targets terms → table.grid ≡ Vector columns targets terms
 grid_at S s place table columns targets terms there vector = ap (λ (t : Table). t.grid) (same_Some table _ (sym there ∙ vector))
 
@@ -71,11 +75,20 @@ module _ (S : Tables) (s : Side) (place : ℕ) (table : Table) (there : slice_ge
         (has.condition, has.at, has.holds),
   )
 
-  pub column_found : (column : ℕ) (columns : List ℕ) → IsOpenColumn (view_of frame) table.grid column → columns ≡ slice_set frame.columns place column
+  pub column_found : (column : ℕ) (columns : List ℕ) → IsOpenColumn (view_of frame) table.grid column → columns
+      ≡ slice_set frame.columns place column
       → HasColumn S s place frame
-      → FindsColumn S s place frame (record { now = frame.now; past = frame.past; truths = frame.truths; columns = columns; runs = frame.runs })
+      → FindsColumn S s place frame (record {
+        now = frame.now;
+        past = frame.past;
+        truths = frame.truths;
+        columns = columns;
+        runs =
+            frame.runs;
+      })
   column_found column columns held_at put has =
-      let held = subst (λ g. IsOpenColumn (view_of frame) g column) (grid_at S s place table has.columns has.targets has.terms there has.there) held_at in
+      let held = subst (λ g. IsOpenColumn (view_of frame) g column) (grid_at S s place table has.columns has.targets has.terms there
+      has.there) held_at in
       record {
         columns = has.columns;
         targets = has.targets;
@@ -100,7 +113,14 @@ module _ (S : Tables) (s : Side) (place : ℕ) (table : Table) (there : slice_ge
     pub entry_found : (variable : ℕ) (z : ℤ) (now : List ℤ)
         → ((e : Term) → term_at table.grid row column ≡ Some e → z ≡ value (view_of frame) e)
         → now ≡ slice_set frame.now variable z → HasEntry S s place row frame
-        → FindsEntry S s variable place row frame (record { now = now; past = frame.past; truths = frame.truths; columns = frame.columns; runs = frame.runs })
+        → FindsEntry S s variable place row frame (record {
+          now = now;
+          past = frame.past;
+          truths = frame.truths;
+          columns =
+              frame.columns;
+          runs = frame.runs;
+        })
     entry_found variable z now value_is put has =
         let all = put ∙ ap (slice_set frame.now variable) (value_is has.term (entry_at has)) in
         record {
@@ -127,7 +147,8 @@ module _ (L : Laws) (S : Tables) (s : Side) (place : ℕ) (table : Table) (there
   cell_found z found = (found_defined L) S (section_of s) x place table there mine (view_of frame) z found
 
 -- what is safe by a test is safe by one that follows from it
-by_less : {V : View} {test other : List Var → List Memory → Bool} → ((vars : List Var) (memories : List Memory) → IsTrue (test vars memories) → IsTrue (other vars memories))
+by_less : {V : View} {test other : List Var → List Memory → Bool} → ((vars : List Var) (memories : List Memory)
+    → IsTrue (test vars memories) → IsTrue (other vars memories))
     → IsSafeBy V test → IsSafeBy V other
 by_less h s = record { vars = s.vars; memories = s.memories; keeps = s.keeps; small = h s.vars s.memories s.small }
 
@@ -155,7 +176,8 @@ pub term_safe : (V : View) (grid : Grid) (row column : ℕ) (e : Term) → term_
 term_safe V grid row column e there = by_less (λ vars memories. term_sized vars memories grid row column e there)
 
 -- the variable at a place that passes a test of kinds
-pub of_kinds : (vars : List Var) (kinds : Kinds) (x : ℕ) → IsTrue (is_of vars kinds x) → (v : Var) × (slice_get vars x ≡ Some v) × IsTrue (kinds x v)
+pub of_kinds : (vars : List Var) (kinds : Kinds) (x : ℕ) → IsTrue (is_of vars kinds x) → (v : Var) × (slice_get vars x ≡ Some v)
+    × IsTrue (kinds x v)
 of_kinds vars kinds x = of (slice_get vars x) refl
   where
     of : (o : Option Var) → slice_get vars x ≡ o → elim o as (λ z. Bool) [ None ↦ false | Some v ↦ kinds x v ] ≡ true
@@ -171,7 +193,8 @@ can_hear V period (Held name s c hold) (Band b) is = absurd is
 can_hear V period (Hyst name s e lo hi start) (Timer t) is = absurd is
 
 -- what goes on with its sample goes on as the memory
-pub hears_advances : (V : View) (memory : Memory) (run next : Running) (says : Bool) → Hears run (sample_of V memory) next says → Advances V memory run next says
+pub hears_advances : (V : View) (memory : Memory) (run next : Running) (says : Bool) → Hears run (sample_of V memory) next says
+    → Advances V memory run next says
 hears_advances V (Held name s c hold) (Timer t) (Timer u) says is = is
 hears_advances V (Hyst name s e lo hi start) (Band b) (Band u) says is = is
 hears_advances V (Held name s c hold) (Timer t) (Band u) says is = absurd is

@@ -1,5 +1,6 @@
 -- What is put in table by table, and row by row, is where the tables of a section define each variable.
-use Rattle.std.proofs.Common.{◌≡◌, ◌∙◌, sym, ap, subst, refl, inl, inr, ℕ, suc, ◌+◌, Bool, true, false, ◌&&◌, ◌||◌, List, [], ◌∷◌, length, slice_get, slice_set, Option, Some, None, arith, ⊎_elim, true≢false}
+use Rattle.std.proofs.Common.{◌≡◌, ◌∙◌, sym, ap, subst, refl, inl, inr, ℕ, suc, ◌+◌, Bool, true, false, ◌&&◌, ◌||◌, List, [], ◌∷◌, length}
+use Rattle.std.proofs.Common.{slice_get, slice_set, Option, Some, None, arith, ⊎_elim, true≢false}
 use Rattle.std.specs.Prelude.{IsTrue, IsFalse, ◌==◌}
 use Rattle.std.specs.List.{list_any}
 use Rattle.std.proofs.lemmas.Bool.{cases_lt, and_from, eq-eqb, eqb-true, cases_Bool}
@@ -15,7 +16,7 @@ use Rattle.ft_core.specs.declared.term.Term.{Term}
 use Rattle.ft_core.specs.meaning.Kinds.{defined_kinds, is_of}
 use Rattle.ft_core.specs.meaning.Grids.{defines, is_for, is_section}
 use Rattle.ft_core.specs.laws.Places.{of-set}
-use Rattle.ft_scan.proofs.Ground.{same_section}
+use Rattle.ft_core.specs.laws.Sections.{same_section}
 use Rattle.ft_scan.specs.steps.Homes.{IsHome, AreHomes, IsPart, PutsHomes, PutsRowHomes}
 use Rattle.ft_scan.specs.declared.homes.Home.{Home}
 use Rattle.ft_scan.specs.declared.homes.Home.TheVariants.{Whole, Row}
@@ -74,34 +75,39 @@ module _ (tables : List Table) (section : Section) where
   stays n m x (Row at row) is = is
 
   -- what a table of the section defines has its home there
-  of-part : (n at x : ℕ) (its : Section) (grid : Grid) (home : Home) → slice_get tables at ≡ Some (record { section = its; grid = grid }) → is_section its section ≡ true
+  of-part : (n at x : ℕ) (its : Section) (grid : Grid) (home : Home) → slice_get tables at ≡ Some (record { section = its; grid = grid })
+      → is_section its section ≡ true
       → IsPart at grid x home → IsHome tables section n x (Some home)
-  of-part n at x its (Normal target columns rows terms) home there own part = subst (λ h. IsHome tables section n x (Some h)) (sym part.1) (record {
-    table = record {
-      table = record { section = its; grid = Normal target columns rows terms };
-      there = there;
-      is_for_it = and_from (is_section its section) (target == x) own (eq-eqb target x part.0);
-    };
-    whole = tt;
-  })
-  of-part n at x its (Inverted target terms rows grid) home there own part = subst (λ h. IsHome tables section n x (Some h)) (sym part.1) (record {
-    table = record {
-      table = record { section = its; grid = Inverted target terms rows grid };
-      there = there;
-      is_for_it = and_from (is_section its section) (target == x) own (eq-eqb target x part.0);
-    };
-    whole = tt;
-  })
-  of-part n at x its (Vector columns targets terms) home there own part = subst (λ h. IsHome tables section n x (Some h)) (sym part.2) (record {
-    columns = columns;
-    targets = targets;
-    terms = terms;
-    there = there ∙ ap (λ (s : Section). Some (record { section = s; grid = Vector columns targets terms })) (same_section its section own);
-    target = part.1;
-  })
+  of-part n at x its (Normal target columns rows terms) home there own part =
+      subst (λ h. IsHome tables section n x (Some h)) (sym part.1) (record {
+        table = record {
+          table = record { section = its; grid = Normal target columns rows terms };
+          there = there;
+          is_for_it = and_from (is_section its section) (target == x) own (eq-eqb target x part.0);
+        };
+        whole = tt;
+      })
+  of-part n at x its (Inverted target terms rows grid) home there own part =
+      subst (λ h. IsHome tables section n x (Some h)) (sym part.1) (record {
+        table = record {
+          table = record { section = its; grid = Inverted target terms rows grid };
+          there = there;
+          is_for_it = and_from (is_section its section) (target == x) own (eq-eqb target x part.0);
+        };
+        whole = tt;
+      })
+  of-part n at x its (Vector columns targets terms) home there own part =
+      subst (λ h. IsHome tables section n x (Some h)) (sym part.2) (record {
+        columns = columns;
+        targets = targets;
+        terms = terms;
+        there = there ∙ ap (λ (s : Section). Some (record { section = s; grid = Vector columns targets terms })) (same_section its section own);
+        target = part.1;
+      })
 
   -- one more table of the section
-  pub one-table : (at : ℕ) (table : Table) (old new : List (Option Home)) → slice_get tables at ≡ Some table → is_section table.section section ≡ true
+  pub one-table : (at : ℕ) (table : Table) (old new : List (Option Home)) → slice_get tables at ≡ Some table
+      → is_section table.section section ≡ true
       → PutsHomes at table.grid old new → AreHomes tables section at old → AreHomes tables section (at + 1) new
   one-table at table old new there own notes so x None is = λ k t below here. ⊎_elim
       (λ less. so x None (notes.none x is).0 k t less here)
@@ -119,7 +125,8 @@ module _ (tables : List Table) (section : Section) where
       (notes.some x home is)
 
   -- a table of another section
-  pub other-table : (at : ℕ) (table : Table) (homes : List (Option Home)) → slice_get tables at ≡ Some table → is_section table.section section ≡ false
+  pub other-table : (at : ℕ) (table : Table) (homes : List (Option Home)) → slice_get tables at ≡ Some table
+      → is_section table.section section ≡ false
       → AreHomes tables section at homes → AreHomes tables section (at + 1) homes
   other-table at table homes there other so x None is = λ k t below here. ⊎_elim
       (λ less. so x None is k t less here)

@@ -53,7 +53,8 @@ module _ (L : Laws) (S : Tables) (a : Reading) (n m : ℕ) where
   from = begun S a n
 
   -- a timer that was told the condition's truths from there on up to this scan is true as the memory is
-  pub timer_is : (name : List ℕ) (side : Side) (c : Cond) (hold : ℤ) → slice_get S.memories m ≡ Some (Held name side c hold) → (truths : List Bool)
+  pub timer_is : (name : List ℕ) (side : Side) (c : Cond) (hold : ℤ) → slice_get S.memories m ≡ Some (Held name side c hold)
+      → (truths : List Bool)
       → length truths ≡ suc n - from → ((j : ℕ) → from ≤ j → j < suc n → truth_at truths (j - from) ≡ truth (here j) c)
       → held_after hold S.period truths ≡ memory_at S a m n
   timer_is name side c hold there truths long told =
@@ -67,7 +68,8 @@ module _ (L : Laws) (S : Tables) (a : Reading) (n m : ℕ) where
       ∙ sym (L.remember S a m n ∙ ap (λ o. remembered S a (memory_at S a) o n) there)
 
   -- the same of a band and its numbers
-  pub band_is : (name : List ℕ) (side : Side) (e : Term) (lo hi : ℤ) (start : Bool) → slice_get S.memories m ≡ Some (Hyst name side e lo hi start) → (numbers : List ℤ)
+  pub band_is : (name : List ℕ) (side : Side) (e : Term) (lo hi : ℤ) (start : Bool) → slice_get S.memories m
+      ≡ Some (Hyst name side e lo hi start) → (numbers : List ℤ)
       → length numbers ≡ suc n - from → ((j : ℕ) → from ≤ j → j < suc n → number_at numbers (j - from) ≡ value (here j) e)
       → hyst_after lo hi start numbers ≡ memory_at S a m n
   band_is name side e lo hi start there numbers long told =
@@ -80,6 +82,7 @@ module _ (L : Laws) (S : Tables) (a : Reading) (n m : ℕ) where
       ∙ (hyst_moved L) from n low lo hi start (λ j. value (here j) e)
       ∙ sym (L.remember S a m n ∙ ap (λ o. remembered S a (memory_at S a) o n) there)
     where
-      some_after : (lo hi : ℤ) (start : Bool) (xs : List ℤ) (k : ℕ) → length xs ≡ suc k → hyst_after lo hi start xs ≡ hyst 0 lo hi start (number_at xs) k
+      some_after : (lo hi : ℤ) (start : Bool) (xs : List ℤ) (k : ℕ) → length xs ≡ suc k → hyst_after lo hi start xs
+          ≡ hyst 0 lo hi start (number_at xs) k
       some_after lo hi start [] k e = absurd (omega (arith, e))
       some_after lo hi start (x ∷ xs) k e = let rest : length xs ≡ k = omega (arith, e) in ap (hyst 0 lo hi start (number_at (x ∷ xs))) rest

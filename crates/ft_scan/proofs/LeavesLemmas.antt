@@ -1,5 +1,6 @@
 -- What a step of a plan leaves is what the next one begins with.
-use Rattle.std.proofs.Common.{◌≡◌, ◌∙◌, sym, ap, subst, refl, ℕ, suc, ◌-◌, ◌<◌, ◌≤◌, ℤ, pos, Bool, false, List, [], ◌∷◌, ◌++◌, length, slice_get, slice_index_or, slice_set, Some, arith, ⊎_elim}
+use Rattle.std.proofs.Common.{◌≡◌, ◌∙◌, sym, ap, subst, refl, ℕ, suc, ◌-◌, ◌<◌, ◌≤◌, ℤ, pos, Bool, false, List, [], ◌∷◌, ◌++◌, length}
+use Rattle.std.proofs.Common.{slice_get, slice_index_or, slice_set, Some, arith, ⊎_elim}
 use Rattle.std.specs.List.{flat_map}
 use Rattle.std.proofs.lemmas.Bool.{cases_eq, cases_lt, eq-eqb}
 use Rattle.std.proofs.lemmas.List.{length-set, length_push, get_or-set_same, get_or-set_other, get_or_push, get_or_append_left}
@@ -55,14 +56,17 @@ one_more_told xs ys x d from n f more low long told last =
 
 module _ (L : Laws) where
   -- a memory that goes on is told one more scan, and says what it says in the reading
-  advanced : (S : Tables) (a : Reading) (n m : ℕ) (V : View) (memory : Memory) (run next : Running) (says : Bool) → slice_get S.memories m ≡ Some memory
-      → AllSame V (at_scan S a (memory_at S a) n) (memory_reads (Some memory)) → IsRunOf S.period memory run → WasToldSince S a (begun S a n) n memory run
+  advanced : (S : Tables) (a : Reading) (n m : ℕ) (V : View) (memory : Memory) (run next : Running) (says : Bool) → slice_get S.memories m
+      ≡ Some memory
+      → AllSame V (at_scan S a (memory_at S a) n) (memory_reads (Some memory)) → IsRunOf S.period memory run
+      → WasToldSince S a (begun S a n) n memory run
       → Advances V memory run next says
       → IsRunOf S.period memory next × WasTold S a (suc n) memory next × (says ≡ memory_at S a m n)
   advanced S a n m V (Held name s c hold) (Timer t) (Timer u) says there same is was goes =
       let hold_is = goes.0 ∙ is.0 in
       let period_is = goes.1 ∙ is.1 in
-      let told = one_more_told t.truths u.truths (truth V c) false (begun S a n) n (λ j. truth (at_scan S a (memory_at S a) j) c) goes.2 (L.begun_low S a n)
+      let told = one_more_told t.truths u.truths (truth V c) false (begun S a n) n (λ j. truth (at_scan S a (memory_at S a) j) c) goes.2
+      (L.begun_low S a n)
       was.0 was.1 (L.same_truth V (at_scan S a (memory_at S a) n) c same) in (
         (hold_is, period_is),
         told,
@@ -72,18 +76,21 @@ module _ (L : Laws) where
       let lo_is = goes.0 ∙ is.0 in
       let hi_is = goes.1 ∙ is.1 in
       let start_is = goes.2 ∙ is.2 in
-      let told = one_more_told b.numbers u.numbers (value V e) (pos 0) (begun S a n) n (λ j. value (at_scan S a (memory_at S a) j) e) goes.3 (L.begun_low S a n)
+      let told = one_more_told b.numbers u.numbers (value V e) (pos 0) (begun S a n) n (λ j. value (at_scan S a (memory_at S a) j) e) goes.3
+      (L.begun_low S a n)
       was.0 was.1 (L.same_value V (at_scan S a (memory_at S a) n) e same) in (
         (lo_is, hi_is, start_is),
         told,
-        goes.4 ∙ (λ i. hyst_after (lo_is i) (hi_is i) (start_is i) u.numbers) ∙ (band_is L) S a n m name s e lo hi start there u.numbers told.0 told.1,
+        goes.4 ∙ (λ i. hyst_after (lo_is i) (hi_is i) (start_is i) u.numbers)
+            ∙ (band_is L) S a n m name s e lo hi start there u.numbers told.0 told.1,
       )
   advanced S a n m V (Held name s c hold) (Timer t) (Band u) says there same is was goes = absurd goes
   advanced S a n m V (Held name s c hold) (Band t) next says there same is was goes = absurd is
   advanced S a n m V (Hyst name s e lo hi start) (Band t) (Timer u) says there same is was goes = absurd goes
   advanced S a n m V (Hyst name s e lo hi start) (Timer t) next says there same is was goes = absurd is
 
-module _ (L : Laws) (S : Tables) (proper : AllProper S) (s : Side) (steps : List Step) (plan : IsPlan S s steps) (a : Reading) (n : ℕ) (scan : IsScan S s a n)
+module _ (L : Laws) (S : Tables) (proper : AllProper S) (s : Side) (steps : List Step) (plan : IsPlan S s steps) (a : Reading) (n : ℕ)
+    (scan : IsScan S s a n)
     (p : ℕ) (frame : Frame) (told : IsTold S s steps a n p frame) where
   abbrev V : View
   V = view_of frame
@@ -101,10 +108,12 @@ module _ (L : Laws) (S : Tables) (proper : AllProper S) (s : Side) (steps : List
     runs : (m : ℕ) → (step.Memory m ≡ one → ⊥) → slice_get next.runs.items m ≡ slice_get frame.runs.items m
     right : IsRight S s a n one next
 
-  still_runs : (one : Step) (next : Frame) → Keeps one next → (k m : ℕ) → (step.Memory m ≡ one → ⊥) → RunsFor S a k m frame → RunsFor S a k m next
+  still_runs : (one : Step) (next : Frame) → Keeps one next → (k m : ℕ) → (step.Memory m ≡ one → ⊥) → RunsFor S a k m frame
+      → RunsFor S a k m next
   still_runs one next keeps k m other runs memory there = let ran = runs memory there in (ran.0, keeps.runs m other ∙ ran.1, ran.2, ran.3)
 
-  still_right : (one : Step) (next : Frame) → Keeps one next → (two : Step) → (two ≡ one → ⊥) → IsRight S s a n two frame → IsRight S s a n two next
+  still_right : (one : Step) (next : Frame) → Keeps one next → (two : Step) → (two ≡ one → ⊥) → IsRight S s a n two frame
+      → IsRight S s a n two next
   still_right one next keeps (step.Column table) other found = record {
     columns = found.columns;
     targets = found.targets;
@@ -133,13 +142,16 @@ module _ (L : Laws) (S : Tables) (proper : AllProper S) (s : Side) (steps : List
         subst (λ r. IsRight S s a n r next) (same_Some one two (sym at ∙ ap (slice_get steps) (sym is) ∙ there)) keeps.right)
         (cases_lt q p);
     waits = λ m q past there.
-        still_runs one next keeps n m (differs one (step.Memory m) q at there (λ e. omega (arith, e, past))) (told.waits m q (omega (arith, past)) there);
+        still_runs one next keeps n m (differs one (step.Memory m) q at there (λ e. omega (arith, e, past)))
+        (told.waits m q (omega (arith, past)) there);
   }
 
   -- a column
-  column_keeps : (table : ℕ) → CanFindColumn S s steps p table → (next : Frame) → FindsColumn S s table frame next → Keeps (step.Column table) next
+  column_keeps : (table : ℕ) → CanFindColumn S s steps p table → (next : Frame) → FindsColumn S s table frame next
+      → Keeps (step.Column table) next
   column_keeps table can next finds =
-      let at = slice_get_within S.tables table (record { section = section_of s; grid = Vector finds.columns finds.targets finds.terms }) finds.there in
+      let at = slice_get_within S.tables table (record { section = section_of s; grid = Vector finds.columns finds.targets finds.terms })
+      finds.there in
       subst (Keeps (step.Column table)) (sym finds.leaves) (record {
         is_frame = record {
           now = told.is_frame.now;
@@ -161,10 +173,12 @@ module _ (L : Laws) (S : Tables) (proper : AllProper S) (s : Side) (steps : List
           terms = finds.terms;
           there = finds.there;
           condition = finds.condition;
-          at = ap (slice_get finds.columns) (get_or-set_same frame.columns table finds.column 0 (omega (arith, at, told.is_frame.columns))) ∙ finds.at;
+          at = ap (slice_get finds.columns) (get_or-set_same frame.columns table finds.column 0 (omega (arith, at, told.is_frame.columns)))
+              ∙ finds.at;
           holds = sym ((truth_known L) S s steps a n p frame told p (omega arith) finds.columns
               (subst (λ cs. AreKnown S s steps p (flat_map cond_reads cs))
-              (same_columns S s table can.columns finds.columns can.targets finds.targets can.terms finds.terms can.there finds.there) can.known)
+              (same_columns S s table can.columns finds.columns can.targets finds.targets can.terms finds.terms can.there finds.there)
+              can.known)
               finds.column finds.condition finds.at)
               ∙ finds.holds;
         };
@@ -173,10 +187,18 @@ module _ (L : Laws) (S : Tables) (proper : AllProper S) (s : Side) (steps : List
   -- a variable that gets its value of the reading
   module _ (x : ℕ) (v : Var) (there : slice_get S.vars x ≡ Some v) (z : ℤ) (is : z ≡ a n x) where
     set_here : slice_index_or (slice_set frame.now x z) x (pos 0) ≡ a n x
-    set_here = let at = slice_get_within S.vars x v there in get_or-set_same frame.now x z (pos 0) (omega (arith, at, told.is_frame.now)) ∙ is
+    set_here = let at = slice_get_within S.vars x v there in get_or-set_same frame.now x z (pos 0) (omega (arith, at, told.is_frame.now))
+        ∙ is
 
     abbrev with_value : Frame
-    with_value = record { now = slice_set frame.now x z; past = frame.past; truths = frame.truths; columns = frame.columns; runs = frame.runs }
+    with_value = record {
+      now = slice_set frame.now x z;
+      past = frame.past;
+      truths = frame.truths;
+      columns = frame.columns;
+      runs =
+          frame.runs;
+    }
 
     value_keeps : (one : Step) → IsRight S s a n one with_value → Keeps one with_value
     value_keeps one right = record {
@@ -189,7 +211,8 @@ module _ (L : Laws) (S : Tables) (proper : AllProper S) (s : Side) (steps : List
         now_in_range = λ y u at. ⊎_elim
             (λ same. subst (λ i. IsWithin u.range (slice_index_or (slice_set frame.now x z) i (pos 0))) (sym same)
             (subst (λ k. IsWithin u.range k) (sym set_here) (scan.in_range n x u (omega arith) (ap (slice_get S.vars) (sym same) ∙ at))))
-            (λ other. subst (λ k. IsWithin u.range k) (sym (get_or-set_other frame.now x y z (pos 0) other)) (told.is_frame.now_in_range y u at))
+            (λ other. subst (λ k. IsWithin u.range k) (sym (get_or-set_other frame.now x y z (pos 0) other))
+            (told.is_frame.now_in_range y u at))
             (cases_eq y x);
         past_in_range = told.is_frame.past_in_range;
       };
@@ -204,35 +227,45 @@ module _ (L : Laws) (S : Tables) (proper : AllProper S) (s : Side) (steps : List
       right = right;
     }
 
-  cell_keeps : (x table : ℕ) → CanFindCell S s steps p x table → (next : Frame) → FindsCell S s x frame next → Keeps (step.Cell x table) next
+  cell_keeps : (x table : ℕ) → CanFindCell S s steps p x table → (next : Frame) → FindsCell S s x frame next
+      → Keeps (step.Cell x table) next
   cell_keeps x table can next finds =
       let v = of_kinds S.vars (defined_kinds (section_of s)) x can.defined in
-      let is = (is_value L) S proper s a n scan.in_range scan.follows V x v.0 (v.1, v.2) ((cells_known L) S s steps a n p frame told x table can.there.table can.there.there can.there.is_for_it can.known) finds.z finds.is in
-      subst (Keeps (step.Cell x table)) (sym finds.leaves) (value_keeps x v.0 v.1 finds.z is (step.Cell x table) (set_here x v.0 v.1 finds.z is))
+      let is = (is_value L) S proper s a n scan.in_range scan.follows V x v.0 (v.1, v.2)
+      ((cells_known L) S s steps a n p frame told x table can.there.table can.there.there can.there.is_for_it can.known) finds.z
+      finds.is in
+      subst (Keeps (step.Cell x table)) (sym finds.leaves) (value_keeps x v.0 v.1 finds.z is (step.Cell x table)
+      (set_here x v.0 v.1 finds.z is))
 
   -- an entry in the column that was found is that of the cell that holds
-  entry_is : (x table row : ℕ) → CanFindEntry S s steps p x table row → (next : Frame) → (finds : FindsEntry S s x table row frame next) → value V finds.term ≡ a n x
+  entry_is : (x table row : ℕ) → CanFindEntry S s steps p x table row → (next : Frame) → (finds : FindsEntry S s x table row frame next)
+      → value V finds.term ≡ a n x
   entry_is x table row can next finds =
       let v = of_kinds S.vars (defined_kinds (section_of s)) x can.defined in
       let before = can.found in
       let found = told.found before.0 (step.Column table) before.1 before.2 in
       let first : CanFindColumn S s steps before.0 table = plan.follows before.0 (step.Column table) before.2 in
       let at = subst (λ cs. slice_get cs (slice_index_or frame.columns table 0) ≡ Some found.condition)
-      (same_columns S s table found.columns finds.columns found.targets finds.targets found.terms finds.terms found.there finds.there) found.at in
+      (same_columns S s table found.columns finds.columns found.targets finds.targets found.terms finds.terms found.there finds.there)
+      found.at in
       let known = subst (λ cs. AreKnown S s steps before.0 (flat_map cond_reads cs))
-      (same_columns S s table first.columns finds.columns first.targets finds.targets first.terms finds.terms first.there finds.there) first.known in
+      (same_columns S s table first.columns finds.columns first.targets finds.targets first.terms finds.terms first.there finds.there)
+      first.known in
       let target = subst (λ ts. slice_get ts row ≡ Some x)
       (same_targets S s table can.columns finds.columns can.targets finds.targets can.terms finds.terms can.there finds.there) can.target in
-      let holds = (truth_known L) S s steps a n p frame told before.0 (omega (arith, before.1)) finds.columns known (slice_index_or frame.columns table 0) found.condition at ∙ found.holds in
+      let holds = (truth_known L) S s steps a n p frame told before.0 (omega (arith, before.1)) finds.columns known
+      (slice_index_or frame.columns table 0) found.condition at ∙ found.holds in
       (is_value L) S proper s a n scan.in_range scan.follows V x v.0 (v.1, v.2) ((cells_known L) S s steps a n p frame told x table
       (record { section = section_of s; grid = Vector can.columns can.targets can.terms }) can.there
       (is_for_target S s table can.columns can.targets can.terms can.there row x can.target) can.known) (value V finds.term)
-      ((found_defined L) S (section_of s) x table (record { section = section_of s; grid = Vector finds.columns finds.targets finds.terms }) finds.there
+      ((found_defined L) S (section_of s) x table (record { section = section_of s; grid = Vector finds.columns finds.targets finds.terms })
+      finds.there
       (is_for_target S s table finds.columns finds.targets finds.terms finds.there row x target) V (value V finds.term)
       (vector_gives V x finds.columns finds.targets finds.terms row x (value V finds.term) target (eq-eqb x x refl)
       (slice_index_or frame.columns table 0, found.condition, finds.term, at, finds.at, holds, refl)))
 
-  entry_keeps : (x table row : ℕ) → CanFindEntry S s steps p x table row → (next : Frame) → FindsEntry S s x table row frame next → Keeps (step.Entry x table row) next
+  entry_keeps : (x table row : ℕ) → CanFindEntry S s steps p x table row → (next : Frame) → FindsEntry S s x table row frame next
+      → Keeps (step.Entry x table row) next
   entry_keeps x table row can next finds =
       let v = of_kinds S.vars (defined_kinds (section_of s)) x can.defined in
       let is = entry_is x table row can next finds in
@@ -240,18 +273,22 @@ module _ (L : Laws) (S : Tables) (proper : AllProper S) (s : Side) (steps : List
       (value_keeps x v.0 v.1 (value V finds.term) is (step.Entry x table row) (set_here x v.0 v.1 (value V finds.term) is))
 
   -- a memory goes on from what it was told
-  module _ (m : ℕ) (can : CanAdvanceMemory S s steps p m) (at : slice_get steps p ≡ Some (step.Memory m)) (next : Frame) (goes : AdvancesMemory S m frame next) where
+  module _ (m : ℕ) (can : CanAdvanceMemory S s steps p m) (at : slice_get steps p ≡ Some (step.Memory m)) (next : Frame)
+      (goes : AdvancesMemory S m frame next) where
     goes_right : IsRunOf S.period goes.memory goes.next × WasTold S a (suc n) goes.memory goes.next × (goes.says ≡ memory_at S a m n)
     goes_right =
         let ran = told.waits m p (omega arith) at goes.memory goes.there in
         let is = same_Some ran.0 goes.run (sym ran.1 ∙ goes.ran) in
         (advanced L) S a n m V goes.memory goes.run goes.next goes.says goes.there
-        ((all_here L) S s steps a n p frame told (memory_reads (Some goes.memory)) (subst (λ o. AreKnown S s steps p (memory_reads o)) goes.there can.known))
+        ((all_here L) S s steps a n p frame told (memory_reads (Some goes.memory))
+        (subst (λ o. AreKnown S s steps p (memory_reads o)) goes.there can.known))
         (subst (IsRunOf S.period goes.memory) is ran.2)
-        (subst (λ from. WasToldSince S a from n goes.memory goes.run) ((begun_stays L) S a n) (subst (WasTold S a n goes.memory) is ran.3)) goes.advances
+        (subst (λ from. WasToldSince S a from n goes.memory goes.run) ((begun_stays L) S a n) (subst (WasTold S a n goes.memory) is ran.3))
+        goes.advances
 
     next_run : slice_get next.runs.items m ≡ Some goes.next
-    next_run = ap (λ xs. slice_get xs m) goes.runs ∙ set-here frame.runs.items m goes.next (slice_get_within frame.runs.items m goes.run goes.ran)
+    next_run = ap (λ xs. slice_get xs m) goes.runs ∙ set-here frame.runs.items m goes.next
+        (slice_get_within frame.runs.items m goes.run goes.ran)
 
     other_run : (k : ℕ) → (k ≡ m → ⊥) → slice_get next.runs.items k ≡ slice_get frame.runs.items k
     other_run k other = ap (λ xs. slice_get xs k) goes.runs ∙ set-there frame.runs.items m goes.next k other
@@ -269,11 +306,17 @@ module _ (L : Laws) (S : Tables) (proper : AllProper S) (s : Side) (steps : List
             truths = ap length goes.truths ∙ length-set frame.truths m goes.says ∙ told.is_frame.truths;
             columns = ap length goes.columns ∙ told.is_frame.columns;
             runs = λ k memory there. ⊎_elim
-                (λ same. (goes.next, ap (slice_get next.runs.items) same ∙ next_run, subst (λ y. IsRunOf S.period y goes.next) (memory_same k memory same there) goes_right.0))
+                (λ same. (
+                  goes.next,
+                  ap (slice_get next.runs.items) same ∙ next_run,
+                  subst (λ y. IsRunOf S.period y goes.next) (memory_same k memory same there) goes_right.0,
+                ))
                 (λ other. let ran = told.is_frame.runs k memory there in (ran.0, other_run k other ∙ ran.1, ran.2))
                 (cases_eq k m);
-            now_in_range = λ x v there. subst (λ xs. IsWithin v.range (slice_index_or xs x (pos 0))) (sym goes.now) (told.is_frame.now_in_range x v there);
-            past_in_range = λ x v there. subst (λ xs. IsWithin v.range (slice_index_or xs x (pos 0))) (sym goes.past) (told.is_frame.past_in_range x v there);
+            now_in_range = λ x v there. subst (λ xs. IsWithin v.range (slice_index_or xs x (pos 0))) (sym goes.now)
+                (told.is_frame.now_in_range x v there);
+            past_in_range = λ x v there. subst (λ xs. IsWithin v.range (slice_index_or xs x (pos 0))) (sym goes.past)
+                (told.is_frame.past_in_range x v there);
           };
           past = goes.past;
           now = λ x is. ap (λ xs. slice_index_or xs x (pos 0)) goes.now ∙ is;
@@ -293,7 +336,8 @@ module _ (L : Laws) (S : Tables) (proper : AllProper S) (s : Side) (steps : List
           );
         }
 
-  step_keeps : (one : Step) → slice_get steps p ≡ Some one → CanFollow S s steps p one → (next : Frame) → Leaves S s one frame next → Keeps one next
+  step_keeps : (one : Step) → slice_get steps p ≡ Some one → CanFollow S s steps p one → (next : Frame) → Leaves S s one frame next
+      → Keeps one next
   step_keeps (step.Column table) at can next leaves = column_keeps table can next leaves
   step_keeps (step.Cell x table) at can next leaves = cell_keeps x table can next leaves
   step_keeps (step.Entry x table row) at can next leaves = entry_keeps x table row can next leaves

@@ -3,7 +3,6 @@ pub mod ColumnLemmas
 pub mod FillLemmas
 pub mod FoundLemmas
 pub mod FrameLemmas
-pub mod Ground
 pub mod HomeLemmas
 pub mod ImageLemmas
 pub mod ItemLemmas

@@ -1,5 +1,6 @@
 -- The places of all variables of some kinds, listed in order of declaration.
-use Rattle.std.proofs.Common.{◌≡◌, ◌∙◌, sym, ap, subst, refl, ℕ, suc, ◌+◌, ◌<◌, Bool, false, cond, List, [], ◌∷◌, ◌++◌, length, slice_get, Option, Some, None, arith, ⊎_elim, true≢false}
+use Rattle.std.proofs.Common.{◌≡◌, ◌∙◌, sym, ap, subst, refl, ℕ, suc, ◌+◌, ◌<◌, Bool, false, cond, List, [], ◌∷◌, ◌++◌, length, slice_get}
+use Rattle.std.proofs.Common.{Option, Some, None, arith, ⊎_elim, true≢false}
 use Rattle.std.specs.Prelude.{IsTrue}
 use Rattle.std.proofs.lemmas.Bool.{cases_lt, cond-true, cond-false}
 use Rattle.std.proofs.lemmas.List.{length_push, take_all}
@@ -11,7 +12,7 @@ use Rattle.ft_core.specs.laws.Places.{on-left, at-end, one-at}
 use Rattle.ft_mean.specs.meaning.Reading.{IsVar}
 use Rattle.ft_scan.specs.steps.Put.{ArePlacesIn, AreOnce}
 use Rattle.ft_scan.specs.steps.Stands.{ArePlaces}
-use Rattle.ft_scan.proofs.PlaceLemmas.{next_place}
+use Rattle.ft_core.specs.laws.VarPlaces.{next-place}
 use Rattle.ft_scan.specs.laws.Laws.{Laws}
 
 -- the places of those among the first n variables
@@ -36,12 +37,13 @@ module _ (kinds : Kinds) (vars : List Var) where
     one = omega arith
 
     place : place_of kinds vars (n + 1) ≡ cond (kinds n v) (suc (place_of kinds vars n)) (place_of kinds vars n)
-    place = ap (place_of kinds vars) (sym one) ∙ next_place kinds vars n v there
+    place = ap (place_of kinds vars) (sym one) ∙ next-place kinds vars n v there
 
     -- one more, at the end
     pub listed_more : IsTrue (kinds n v) → AreListed kinds vars (n + 1) (places ++ n ∷ [])
     listed_more is = record {
-      count = length_push places n ∙ ap (λ k. k + 1) so_far.count ∙ (let more : place_of kinds vars n + 1 ≡ suc (place_of kinds vars n) = omega arith in more)
+      count = length_push places n ∙ ap (λ k. k + 1) so_far.count ∙ (let more : place_of kinds vars n + 1 ≡ suc (place_of kinds vars n) =
+          omega arith in more)
           ∙ sym (place ∙ cond-true (kinds n v) (suc (place_of kinds vars n)) (place_of kinds vars n) is);
       each = λ x l t. ⊎_elim
           (λ less. on-left places (n ∷ []) (place_of kinds vars x) x (so_far.each x less t))
@@ -74,7 +76,8 @@ module _ (L : Laws) (S : Tables) (kinds : Kinds) (places : List ℕ) (are : AreP
   pub listed_at : (k p : ℕ) → slice_get places k ≡ Some p → (v : Var) × IsVar S kinds p v × (place_of kinds S.vars p ≡ k)
   listed_at k p e =
       let at = L.taken S kinds k (let below = slice_get_within places k p e in omega (arith, below, are.count)) in
-      let here : slice_get places (place_of kinds S.vars at.x) ≡ Some at.x = are.each at.x (of_var kinds S.vars at.x at.v at.is.0 ∙ at.is.1) in
+      let here : slice_get places (place_of kinds S.vars at.x) ≡ Some at.x =
+      are.each at.x (of_var kinds S.vars at.x at.v at.is.0 ∙ at.is.1) in
       let same : at.x ≡ p = one-at places k at.x p (subst (λ i. slice_get places i ≡ Some at.x) at.place here) e in
       (at.v, subst (λ x. IsVar S kinds x at.v) same at.is, subst (λ x. place_of kinds S.vars x ≡ k) same at.place)
 

@@ -1,5 +1,6 @@
 -- A row filled with the values of a section's tables is the image of the row that they look at.
-use Rattle.std.proofs.Common.{◌≡◌, ◌∙◌, sym, subst, refl, ℕ, zero, suc, ◌<◌, ℤ, true, List, [], ◌∷◌, length, slice_index_or, arith, true≢false}
+use Rattle.std.proofs.Common.{◌≡◌, ◌∙◌, sym, subst, refl, ℕ, zero, suc, ◌<◌, ℤ, true, List, [], ◌∷◌, length, slice_index_or, arith}
+use Rattle.std.proofs.Common.{true≢false}
 use Rattle.std.specs.Prelude.{IsTrue}
 use Rattle.std.specs.List.{flat_map}
 use Rattle.ft_base.specs.Interval.{IsWithin}
@@ -21,7 +22,8 @@ use Rattle.ft_scan.proofs.PlaceLemmas.{same_image}
 use Rattle.ft_scan.specs.steps.Rows.{row_view, HasValues, AreValues}
 use Rattle.ft_scan.specs.laws.Laws.{Laws}
 
-module _ (L : Laws) (S : Tables) (proper : AllProper S) (section : Section) (kinds : Kinds) (reads : (r : Read) → may_read S.vars S.memories section r ≡ true → now_of S.vars kinds r ≡ true)
+module _ (L : Laws) (S : Tables) (proper : AllProper S) (section : Section) (kinds : Kinds)
+    (reads : (r : Read) → may_read S.vars S.memories section r ≡ true → now_of S.vars kinds r ≡ true)
     (row : List ℤ) (given : IsListOf S kinds (row ∷ [])) where
   abbrev V : View
   V = row_view S kinds row [] true
@@ -39,11 +41,13 @@ module _ (L : Laws) (S : Tables) (proper : AllProper S) (section : Section) (kin
   same_value x v is z =
       let o = L.has_table S section x v is in
       L.same_defined S section V W x z (subst (λ cs. AllSame V W (flat_map cell_reads cs)) (sym o.cells_are) (λ r c. same_read r (reads r
-      (subst (λ z. may_read S.vars S.memories z r ≡ true) o.section_is (S.sound.tables_read o.place o.table r o.there (L.own_reads o.table.grid x r c))))))
+      (subst (λ z. may_read S.vars S.memories z r ≡ true) o.section_is
+      (S.sound.tables_read o.place o.table r o.there (L.own_reads o.table.grid x r c))))))
 
   answer_at : (x : ℕ) (v : Var) → IsVar S (defined_kinds section) x v → OneValue S section W x v.range
   answer_at x v is = L.one_value S proper section W x v is
-      (λ k table there own. L.local S (reading_of S kinds (row ∷ [])) 0 (λ j y u l e. L.in_range S kinds (row ∷ []) given j y u (omega (arith, l)) e) _)
+      (λ k table there own. L.local S (reading_of S kinds (row ∷ [])) 0
+      (λ j y u l e. L.in_range S kinds (row ∷ []) given j y u (omega (arith, l)) e) _)
 
   pub has_values : HasValues S section V
   has_values x v is = let one = answer_at x v is in (one.z, same_value x v is one.z ∙ one.is)
@@ -69,12 +73,14 @@ module _ (L : Laws) (S : Tables) (proper : AllProper S) (section : Section) (kin
     }
 
     follows : (t : ℕ) → t < 1 → Follows S section (look S (reading_of S kinds (row ∷ [])) t) (told (defined_kinds section) t)
-    follows t l x v is = only (λ t. IsTrue (defined S section (look S (reading_of S kinds (row ∷ [])) t) x (told (defined_kinds section) t x))) (holds x v is) t l
+    follows t l x v is = only (λ t. IsTrue (defined S section (look S (reading_of S kinds (row ∷ [])) t) x
+        (told (defined_kinds section) t x))) (holds x v is) t l
 
     pub image_maps : Maps S section kinds (row ∷ []) (image ∷ [])
     image_maps = record {
       lengths = refl;
       values = subst (λ (k : Kinds). IsListOf S k (image ∷ [])) (sym (same_image section)) is_list;
       same_given = λ t x v l is other. absurd (true≢false (sym (subst (λ (k : Kinds). k x v ≡ true) (same_image section) is.1) ∙ other));
-      follows = λ t l. subst (λ (k : Kinds). Follows S section (look S (reading_of S kinds (row ∷ [])) t) (told k t)) (sym (same_image section)) (follows t l);
+      follows = λ t l. subst (λ (k : Kinds). Follows S section (look S (reading_of S kinds (row ∷ [])) t) (told k t))
+          (sym (same_image section)) (follows t l);
     }

@@ -1,5 +1,6 @@
 -- A frame and a scanner before scan 0.
-use Rattle.std.proofs.Common.{◌≡◌, ◌∙◌, sym, ap, subst, refl, ℕ, ◌+◌, ℤ, pos, List, [], ◌∷◌, ◌++◌, length, map, slice_get, slice_index_or, Some, None, arith, ⊎_elim}
+use Rattle.std.proofs.Common.{◌≡◌, ◌∙◌, sym, ap, subst, refl, ℕ, ◌+◌, ℤ, pos, List, [], ◌∷◌, ◌++◌, length, map, slice_get, slice_index_or}
+use Rattle.std.proofs.Common.{Some, None, arith, ⊎_elim}
 use Rattle.std.specs.Option.{option_map}
 use Rattle.std.proofs.lemmas.Bool.{cases_lt}
 use Rattle.std.proofs.lemmas.List.{length-map}
@@ -34,7 +35,8 @@ all_start_more S n runs run long starts so_far m l = ⊎_elim
     (cases_lt m n)
 
 -- before scan 0 it was told no scan
-pub told_none : (S : Tables) (a : Reading) (period : ℤ) (memory : Memory) (run : Running) → IsRunOf period memory run → IsFresh run → WasTold S a 0 memory run
+pub told_none : (S : Tables) (a : Reading) (period : ℤ) (memory : Memory) (run : Running) → IsRunOf period memory run → IsFresh run
+    → WasTold S a 0 memory run
 told_none S a period (Held name s c hold) (Timer t) of fresh = (ap length fresh ∙ omega arith, λ j low l. absurd (omega (arith, l)))
 told_none S a period (Hyst name s e lo hi start) (Band u) of fresh = (ap length fresh ∙ omega arith, λ j low l. absurd (omega (arith, l)))
 told_none S a period (Held name s c hold) (Band u) of fresh = absurd of
@@ -50,7 +52,8 @@ fits_none S s = record {
   follows = λ t l. absurd (omega (arith, l));
 }
 
-inits_at : (vars : List Var) (x : ℕ) (v : Var) → slice_get vars x ≡ Some v → slice_index_or (map (λ (u : Var). u.init) vars) x (pos 0) ≡ v.init
+inits_at : (vars : List Var) (x : ℕ) (v : Var) → slice_get vars x ≡ Some v → slice_index_or (map (λ (u : Var). u.init) vars) x (pos 0)
+    ≡ v.init
 inits_at vars x v e =
     get_or_from_slice_get (map (λ (u : Var). u.init) vars) x v.init (pos 0)
     (slice_get-map (λ (u : Var). u.init) vars x ∙ ap (option_map (λ (u : Var). u.init)) e)
@@ -64,8 +67,10 @@ module _ (S : Tables) (s : Side) (steps : List Step) (given side_variables : Lis
     truths = start.truths;
     columns = start.columns;
     runs = λ m memory e. let at = start.runs m (slice_get_within S.memories m memory e) in (at.0, at.1, (at.2 memory e).0);
-    now_in_range = λ x v e. subst (λ z. IsWithin v.range z) (sym (ap (λ xs. slice_index_or xs x (pos 0)) start.now ∙ inits_at S.vars x v e)) (S.sound.inits x v e);
-    past_in_range = λ x v e. subst (λ z. IsWithin v.range z) (sym (ap (λ xs. slice_index_or xs x (pos 0)) start.past ∙ inits_at S.vars x v e)) (S.sound.inits x v e);
+    now_in_range = λ x v e. subst (λ z. IsWithin v.range z) (sym (ap (λ xs. slice_index_or xs x (pos 0)) start.now ∙ inits_at S.vars x v e))
+        (S.sound.inits x v e);
+    past_in_range = λ x v e. subst (λ z. IsWithin v.range z) (sym (ap (λ xs. slice_index_or xs x (pos 0)) start.past
+        ∙ inits_at S.vars x v e)) (S.sound.inits x v e);
   }
 
   pub stands_first : IsPlan S s steps → ArePlaces S (given_kinds s) given → ArePlaces S (side_kinds s) side_variables

@@ -1,5 +1,6 @@
 -- The steps of one more item of an order may follow those so far, and all items make a plan.
-use Rattle.std.proofs.Common.{◌≡◌, ◌∙◌, sym, ap, subst, refl, inl, inr, ℕ, ◌+◌, ◌-◌, ◌<◌, ◌≤◌, true, false, List, [], ◌∷◌, ◌++◌, length, slice_get, slice_set, Some, replicate, arith, ⊎_elim, true≢false}
+use Rattle.std.proofs.Common.{◌≡◌, ◌∙◌, sym, ap, subst, refl, inl, inr, ℕ, ◌+◌, ◌-◌, ◌<◌, ◌≤◌, true, false, List, [], ◌∷◌, ◌++◌, length}
+use Rattle.std.proofs.Common.{slice_get, slice_set, Some, replicate, arith, ⊎_elim, true≢false}
 use Rattle.std.proofs.lemmas.Bool.{cases_Bool, cases_lt}
 use Rattle.std.proofs.lemmas.List.{length_push, length-set, length-replicate}
 use Rattle.std.proofs.lemmas.Option.{none-some, same_Some, slice_get_within}
@@ -50,7 +51,13 @@ module _ (S : Tables) (s : Side) (steps more : List Step) (begins : Begins steps
     target = can.target;
     defined = can.defined;
   }
-  follows-more n (step.Cell x table) can = record { there = can.there; whole = can.whole; defined = can.defined; known = λ r c. known-more n r (can.known r c) }
+  follows-more n (step.Cell x table) can = record {
+    there = can.there;
+    whole = can.whole;
+    defined = can.defined;
+    known =
+        λ r c. known-more n r (can.known r c);
+  }
   follows-more n (step.Entry x table row) can = record {
     columns = can.columns;
     targets = can.targets;
@@ -75,7 +82,8 @@ same-planned old new keeps = λ i. record { steps = keeps.steps i; columns = kee
 
 module _ (L : Laws) (S : Tables) (s : Side) (order : List ℕ) where
   -- what is one more may follow
-  follows-push : (steps more : List Step) (one : Step) → more ≡ steps ++ one ∷ [] → ((n : ℕ) (two : Step) → slice_get steps n ≡ Some two → CanFollow S s steps n two)
+  follows-push : (steps more : List Step) (one : Step) → more ≡ steps ++ one ∷ []
+      → ((n : ℕ) (two : Step) → slice_get steps n ≡ Some two → CanFollow S s steps n two)
       → CanFollow S s steps (length steps) one → (n : ℕ) (two : Step) → slice_get more n ≡ Some two → CanFollow S s more n two
   follows-push steps more one is so can n two there = ⊎_elim
       (λ old. follows-more S s steps more (pushed steps more one is) n two (so n two old))
@@ -100,7 +108,8 @@ module _ (L : Laws) (S : Tables) (s : Side) (order : List ℕ) where
       (of-push steps one p two (subst (λ xs. slice_get xs p ≡ Some two) is at_p))
 
   -- the column of a table that had none
-  first-column : (at table : ℕ) (old new : Planned) → IsRightSoFar S s order at old → FirstColumn table old new → CanFindColumn S s old.steps (length old.steps) table
+  first-column : (at table : ℕ) (old new : Planned) → IsRightSoFar S s order at old → FirstColumn table old new
+      → CanFindColumn S s old.steps (length old.steps) table
       → IsRightSoFar S s order at new
   first-column at table old new so first can = record {
     long = ap length first.columns ∙ length-set old.columns table true ∙ so.long;
@@ -121,7 +130,8 @@ module _ (L : Laws) (S : Tables) (s : Side) (order : List ℕ) where
         (of-set old.columns table true t true (subst (λ xs. slice_get xs t ≡ Some true) first.columns is));
     said = λ q t there. subst (λ xs. slice_get xs t ≡ Some true) (sym first.columns) (⊎_elim
         (λ was. said-still t (so.said q t was))
-        (λ is. subst (λ k. slice_get (slice_set old.columns table true) k ≡ Some true) (same-column table t is.1) (set-here old.columns table true (slice_get_within old.columns table false first.missed)))
+        (λ is. subst (λ k. slice_get (slice_set old.columns table true) k ≡ Some true) (same-column table t is.1)
+        (set-here old.columns table true (slice_get_within old.columns table false first.missed)))
         (of-push old.steps (step.Column table) q (step.Column t) (subst (λ xs. slice_get xs q ≡ Some (step.Column t)) first.steps there)));
   }
     where
@@ -135,11 +145,13 @@ module _ (L : Laws) (S : Tables) (s : Side) (order : List ℕ) where
           table-of (step.Memory m) = m
 
       said-still : (t : ℕ) → slice_get old.columns t ≡ Some true → slice_get (slice_set old.columns table true) t ≡ Some true
-      said-still t was = set-there old.columns table true t (λ same. true≢false (same_Some true false (sym was ∙ ap (slice_get old.columns) same ∙ first.missed))) ∙ was
+      said-still t was = set-there old.columns table true t (λ same. true≢false
+          (same_Some true false (sym was ∙ ap (slice_get old.columns) same ∙ first.missed))) ∙ was
 
   module _ (right : IsScanOrder (length S.vars) S.memories S.tables order) (at k : ℕ) (here : slice_get order at ≡ Some k) where
     -- the step that makes the next item
-    pub next-step : (one : Step) (old new : Planned) → IsRightSoFar S s order at old → item_of (length S.vars) one ≡ Some k → CanFollow S s old.steps (length old.steps) one
+    pub next-step : (one : Step) (old new : Planned) → IsRightSoFar S s order at old → item_of (length S.vars) one ≡ Some k
+        → CanFollow S s old.steps (length old.steps) one
         → Adds one old new → IsRightSoFar S s order (at + 1) new
     next-step one old new so its can adds = record {
       long = ap length adds.columns ∙ so.long;
@@ -171,9 +183,11 @@ module _ (L : Laws) (S : Tables) (s : Side) (order : List ℕ) where
 
     still-made : (old new : Planned) → Grows old new → HasMade S s order at old → HasMade S s order at new
     still-made old new grows made = record {
-      variables = λ p x below there own. made-more S s old.steps new.steps grows.0 (length old.steps) (length new.steps) (at_now x) grows.1 (made.variables p x below there own);
+      variables = λ p x below there own. made-more S s old.steps new.steps grows.0 (length old.steps) (length new.steps) (at_now x) grows.1
+          (made.variables p x below there own);
       memories = λ p j m below there is own.
-          made-more S s old.steps new.steps grows.0 (length old.steps) (length new.steps) (of_memory m) grows.1 (made.memories p j m below there is own);
+          made-more S s old.steps new.steps grows.0 (length old.steps) (length new.steps) (of_memory m) grows.1
+          (made.memories p j m below there is own);
     }
 
     -- what is made of one more item
@@ -193,7 +207,8 @@ module _ (L : Laws) (S : Tables) (s : Side) (order : List ℕ) where
     }
       where
         now : (p j : ℕ) → p < at + 1 → at ≤ p → slice_get order p ≡ Some j → k ≡ j
-        now p j below most there = let same : p ≡ at = omega (arith, below, most) in same_Some k j (sym here ∙ ap (slice_get order) (sym same) ∙ there)
+        now p j below most there = let same : p ≡ at = omega (arith, below, most) in
+            same_Some k j (sym here ∙ ap (slice_get order) (sym same) ∙ there)
 
     -- a step that is added is made
     makes-it : (one : Step) (r : Read) (old new : Planned) → Adds one old new → Makes one r → IsMade new.steps (length new.steps) r
@@ -214,7 +229,8 @@ module _ (L : Laws) (S : Tables) (s : Side) (order : List ℕ) where
         within = of-within S.vars (defined_kinds (section_of s)) k own
 
         -- after a step that makes the variable
-        variable-made : (one : Step) (mid : Planned) → IsRightSoFar S s order at mid → HasMade S s order at mid → Makes one (at_now k) → item_of (length S.vars) one ≡ Some k
+        variable-made : (one : Step) (mid : Planned) → IsRightSoFar S s order at mid → HasMade S s order at mid → Makes one (at_now k)
+            → item_of (length S.vars) one ≡ Some k
             → CanFollow S s mid.steps (length mid.steps) one → Adds one mid new → IsNext
         variable-made one mid mid_so mid_made makes its can adds = (
           next-step one mid new mid_so its can adds,
@@ -224,18 +240,21 @@ module _ (L : Laws) (S : Tables) (s : Side) (order : List ℕ) where
         )
 
         -- after its entry, where the column stands
-        entry-made : (table row : ℕ) (mid : Planned) → IsRowHome S.tables (section_of s) k table row → IsRightSoFar S s order at mid → HasMade S s order at mid
+        entry-made : (table row : ℕ) (mid : Planned) → IsRowHome S.tables (section_of s) k table row → IsRightSoFar S s order at mid
+            → HasMade S s order at mid
             → slice_get mid.columns table ≡ Some true → Adds (step.Entry k table row) mid new → IsNext
-        entry-made table row mid home mid_so mid_made stands adds = variable-made (step.Entry k table row) mid mid_so mid_made refl refl (record {
-          columns = home.columns;
-          targets = home.targets;
-          terms = home.terms;
-          there = home.there;
-          target = home.target;
-          defined = own;
-          found = let q = mid_so.stands table stands in (q.0, slice_get_within mid.steps q.0 (step.Column table) q.1, q.1);
-          known = (known-entries L) S s order right at k here mid mid_made within table row home.columns home.targets home.terms home.there home.target;
-        }) adds
+        entry-made table row mid home mid_so mid_made stands adds = variable-made (step.Entry k table row) mid mid_so mid_made refl refl
+            (record {
+              columns = home.columns;
+              targets = home.targets;
+              terms = home.terms;
+              there = home.there;
+              target = home.target;
+              defined = own;
+              found = let q = mid_so.stands table stands in (q.0, slice_get_within mid.steps q.0 (step.Column table) q.1, q.1);
+              known = (known-entries L) S s order right at k here mid mid_made within table row home.columns home.targets home.terms home.there
+                  home.target;
+            }) adds
 
         home-made : (home : Home) → IsHome S.tables (section_of s) (length S.tables) k (Some home) → AddsHome k home old new → IsNext
         home-made (Whole table) home adds = variable-made (step.Cell k table) old so made refl refl (record {
@@ -254,17 +273,20 @@ module _ (L : Laws) (S : Tables) (s : Side) (order : List ℕ) where
               targets = home.targets;
               terms = home.terms;
               there = home.there;
-              known = (known-columns L) S s order right at k here old made within table row home.columns home.targets home.terms home.there home.target;
+              known = (known-columns L) S s order right at k here old made within table row home.columns home.targets home.terms home.there
+                  home.target;
               row = row;
               variable = k;
               target = home.target;
               defined = own;
             }))
             (still-made old mid (grown (step.Column table) old mid first.steps) made)
-            (ap (λ xs. slice_get xs table) first.columns ∙ set-here old.columns table true (slice_get_within old.columns table false first.missed)) adds)
+            (ap (λ xs. slice_get xs table) first.columns ∙ set-here old.columns table true
+            (slice_get_within old.columns table false first.missed)) adds)
             column
 
-      passed-over : Keeps old new → (is_of S.vars (defined_kinds (section_of s)) k ≡ true → ⊥) → ((m : ℕ) → k ≡ length S.vars + m → is_memory_of S.memories s m ≡ true → ⊥) → IsNext
+      passed-over : Keeps old new → (is_of S.vars (defined_kinds (section_of s)) k ≡ true → ⊥)
+          → ((m : ℕ) → k ≡ length S.vars + m → is_memory_of S.memories s m ≡ true → ⊥) → IsNext
       passed-over keeps no_variable no_memory = let same = same-planned old new keeps in (
         later new (subst (IsRightSoFar S s order at) (sym same) so),
         made-next new (subst (HasMade S s order at) (sym same) made)
@@ -274,9 +296,11 @@ module _ (L : Laws) (S : Tables) (s : Side) (order : List ℕ) where
 
       memory-made : (m : ℕ) → k ≡ length S.vars + m → is_memory_of S.memories s m ≡ true → Adds (step.Memory m) old new → IsNext
       memory-made m is own adds = (
-        next-step (step.Memory m) old new so (ap Some (sym is)) (record { there = own; known = (known-memory L) S s order right at k here old made m is own }) adds,
+        next-step (step.Memory m) old new so (ap Some (sym is)) (record
+            { there = own; known = (known-memory L) S s order right at k here old made m is own }) adds,
         made-next new (still-made old new (grown (step.Memory m) old new adds.steps) made)
-            (λ x same other. let within = of-within S.vars (defined_kinds (section_of s)) x other in absurd (omega (arith, within, same, is)))
+            (λ x same other. let within = of-within S.vars (defined_kinds (section_of s)) x other in
+            absurd (omega (arith, within, same, is)))
             (λ j same other. let one : m ≡ j = omega (arith, is, same) in
             subst (λ i. IsMade new.steps (length new.steps) (of_memory i)) one (makes-it (step.Memory m) (of_memory m) old new adds refl)),
       )
@@ -287,7 +311,8 @@ module _ (L : Laws) (S : Tables) (s : Side) (order : List ℕ) where
           (λ own. let home = variable.defined own in home-made own home.0 home.1 home.2)
           (λ other. passed-over (variable.other other) (λ own. true≢false (sym own ∙ other)) (λ m is own. omega (arith, less, is)))
           (cases_Bool (is_of S.vars (defined_kinds (section_of s)) k)))
-          (λ past. let is : k ≡ length S.vars + (k - length S.vars) = omega (arith, past) in let memory = adds.memory (k - length S.vars) is in ⊎_elim
+          (λ past. let is : k ≡ length S.vars + (k - length S.vars) = omega (arith, past) in let memory =
+          adds.memory (k - length S.vars) is in ⊎_elim
           (λ own. memory-made (k - length S.vars) is own (memory.of_side own))
           (λ other. passed-over (memory.other other)
           (λ own. let within = of-within S.vars (defined_kinds (section_of s)) k own in omega (arith, within, past))
@@ -297,14 +322,16 @@ module _ (L : Laws) (S : Tables) (s : Side) (order : List ℕ) where
           (cases_lt k (length S.vars))
 
   -- before the first item
-  pub none-made : (planned : Planned) → planned.steps ≡ [] → planned.columns ≡ replicate (length S.tables) false → IsSoFar S s order 0 planned
+  pub none-made : (planned : Planned) → planned.steps ≡ [] → planned.columns ≡ replicate (length S.tables) false
+      → IsSoFar S s order 0 planned
   none-made planned no_steps no_columns = (
     record {
       long = ap length no_columns ∙ length-replicate (length S.tables) false;
       follows = λ n one there. absurd (none-at n one (subst (λ xs. slice_get xs n ≡ Some one) no_steps there));
       once = λ one p q there again. absurd (none-at p one (subst (λ xs. slice_get xs p ≡ Some one) no_steps there));
       of_item = λ n k one there its. absurd (none-at n one (subst (λ xs. slice_get xs n ≡ Some one) no_steps there));
-      stands = λ t is. absurd (true≢false (sym (of-replicate (length S.tables) t true false (subst (λ xs. slice_get xs t ≡ Some true) no_columns is))));
+      stands = λ t is. absurd (true≢false (sym (of-replicate (length S.tables) t true false
+          (subst (λ xs. slice_get xs t ≡ Some true) no_columns is))));
       said = λ q t there. absurd (none-at q (step.Column t) (subst (λ xs. slice_get xs q ≡ Some (step.Column t)) no_steps there));
     },
     record {
@@ -314,7 +341,8 @@ module _ (L : Laws) (S : Tables) (s : Side) (order : List ℕ) where
   )
 
   -- after the last
-  pub all-made : IsScanOrder (length S.vars) S.memories S.tables order → (planned : Planned) → IsSoFar S s order (length order) planned → IsPlan S s planned.steps
+  pub all-made : IsScanOrder (length S.vars) S.memories S.tables order → (planned : Planned) → IsSoFar S s order (length order) planned
+      → IsPlan S s planned.steps
   all-made right planned so = record {
     follows = so.0.follows;
     once = so.0.once;

@@ -1,5 +1,6 @@
 -- What an item of a side reads is known once all before it in an order is made.
-use Rattle.std.proofs.Common.{◌≡◌, ◌∙◌, sym, ap, subst, refl, ◌⊎◌, inl, inr, ℕ, zero, suc, ◌+◌, ◌-◌, ◌<◌, Bool, true, false, ◌||◌, cond, List, [], ◌∷◌, length, slice_get, Option, Some, None, arith, ⊎_elim, true≢false}
+use Rattle.std.proofs.Common.{◌≡◌, ◌∙◌, sym, ap, subst, refl, ◌⊎◌, inl, inr, ℕ, zero, suc, ◌+◌, ◌-◌, ◌<◌, Bool, true, false, ◌||◌, cond}
+use Rattle.std.proofs.Common.{List, [], ◌∷◌, length, slice_get, Option, Some, None, arith, ⊎_elim, true≢false}
 use Rattle.std.specs.Prelude.{nat_lt, ◌==◌}
 use Rattle.std.specs.List.{Contains, flat_map, list_any}
 use Rattle.std.proofs.lemmas.Bool.{and_parts, or_cases, or_left, or_right, cond-true, cond-false, lt-ltb, le-ltb, eq-eqb}
@@ -19,7 +20,8 @@ use Rattle.ft_core.specs.meaning.Grids.{cells_for, defines, is_section, is_for, 
 use Rattle.ft_core.specs.meaning.Items.{item, item_read, IsScanOrder}
 use Rattle.ft_core.specs.meaning.Reads.{Read, at_now, at_before, of_memory, of_age, cond_reads, memory_reads, grid_reads, cell_reads}
 use Rattle.ft_core.specs.checked.Sound.{side_of, is_side, is_memory_of, on_side, may_read, item_reads}
-use Rattle.ft_scan.proofs.Ground.{in_all, of_side, same_section, same_side, is_for_from}
+use Rattle.ft_core.specs.laws.Lists.{in_all}
+use Rattle.ft_core.specs.laws.Sections.{is_for_from, of_side, same_section, same_side}
 use Rattle.ft_scan.specs.steps.Plan.{IsKnown, AreKnown}
 use Rattle.ft_scan.specs.steps.Planning.{HasMade}
 use Rattle.ft_scan.specs.declared.plan.Planned.{Planned}
@@ -35,31 +37,38 @@ of-within vars kinds x is = go (slice_get vars x) refl is
     go None e t = absurd (true≢false (sym t))
     go (Some v) e t = slice_get_within vars x v e
 
-pub memory-within : (memories : List Memory) (s : Side) (m : ℕ) → is_memory_of memories s m ≡ true → (memory : Memory) × (slice_get memories m ≡ Some memory) × (side_of memory ≡ s)
+pub memory-within : (memories : List Memory) (s : Side) (m : ℕ) → is_memory_of memories s m ≡ true → (memory : Memory)
+    × (slice_get memories m ≡ Some memory) × (side_of memory ≡ s)
 memory-within memories s m is = go (slice_get memories m) refl is
   where
-    go : (o : Option Memory) → slice_get memories m ≡ o → elim o as (λ z. Bool) [ None ↦ false | Some memory ↦ is_side (side_of memory) s ] ≡ true
+    go : (o : Option Memory) → slice_get memories m ≡ o → elim o as (λ z. Bool) [ None ↦ false | Some memory ↦ is_side (side_of memory) s ]
+        ≡ true
         → (memory : Memory) × (slice_get memories m ≡ Some memory) × (side_of memory ≡ s)
     go None e t = absurd (true≢false (sym t))
     go (Some memory) e t = (memory, e, same_side (side_of memory) s t)
 
 -- a variable of a side is given or defined
-side-cases : (vars : List Var) (s : Side) (x : ℕ) → is_of vars (side_kinds s) x ≡ true → (is_of vars (given_kinds s) x ≡ true) ⊎ (is_of vars (defined_kinds (section_of s)) x ≡ true)
+side-cases : (vars : List Var) (s : Side) (x : ℕ) → is_of vars (side_kinds s) x ≡ true → (is_of vars (given_kinds s) x ≡ true)
+    ⊎ (is_of vars (defined_kinds (section_of s)) x ≡ true)
 side-cases vars s x is = go (slice_get vars x) is
   where
     go : (o : Option Var) → elim o as (λ z. Bool) [ None ↦ false | Some v ↦ side_kinds s x v ] ≡ true
-        → (elim o as (λ z. Bool) [ None ↦ false | Some v ↦ given_kinds s x v ] ≡ true) ⊎ (elim o as (λ z. Bool) [ None ↦ false | Some v ↦ defined_kinds (section_of s) x v ] ≡ true)
+        → (elim o as (λ z. Bool) [ None ↦ false | Some v ↦ given_kinds s x v ] ≡ true)
+        ⊎ (elim o as (λ z. Bool) [ None ↦ false | Some v ↦ defined_kinds (section_of s) x v ] ≡ true)
     go None t = absurd (true≢false (sym t))
     go (Some v) t = or_cases (given_kinds s x v) (defined_kinds (section_of s) x v) t
 
-may-on : (vars : List Var) (memories : List Memory) (s : Side) (r : Read) → may_read vars memories (section_of s) r ≡ true → on_side vars memories s r ≡ true
+may-on : (vars : List Var) (memories : List Memory) (s : Side) (r : Read) → may_read vars memories (section_of s) r ≡ true
+    → on_side vars memories s r ≡ true
 may-on vars memories side.Req r e = e
 may-on vars memories side.Sof r e = e
 
-module _ (L : Laws) (S : Tables) (s : Side) (order : List ℕ) (right : IsScanOrder (length S.vars) S.memories S.tables order) (at k : ℕ) (here : slice_get order at ≡ Some k)
+module _ (L : Laws) (S : Tables) (s : Side) (order : List ℕ) (right : IsScanOrder (length S.vars) S.memories S.tables order) (at k : ℕ)
+    (here : slice_get order at ≡ Some k)
     (planned : Planned) (made : HasMade S s order at planned) where
   -- an item that this one reads
-  earlier : (r : Read) (q : ℕ) → Contains (item_reads S.memories S.tables (item (length S.vars) k)) r → item_read (length S.vars) (length S.memories) r ≡ Some q
+  earlier : (r : Read) (q : ℕ) → Contains (item_reads S.memories S.tables (item (length S.vars) k)) r
+      → item_read (length S.vars) (length S.memories) r ≡ Some q
       → (p : ℕ) × (p < at) × (slice_get order p ≡ Some q)
   earlier r q reads is = right.before k q at here (r, reads, is)
 
@@ -70,7 +79,8 @@ module _ (L : Laws) (S : Tables) (s : Side) (order : List ℕ) (right : IsScanOr
       (λ given. inl given)
       (λ defined.
       let is : item_read (length S.vars) (length S.memories) (at_now x) ≡ Some x =
-      cond-true (nat_lt x (length S.vars)) (Some x) None (lt-ltb x (length S.vars) (of-within S.vars (defined_kinds (section_of s)) x defined)) in
+      cond-true (nat_lt x (length S.vars)) (Some x) None (lt-ltb x (length S.vars)
+      (of-within S.vars (defined_kinds (section_of s)) x defined)) in
       let p = earlier (at_now x) x reads is in
       inr (made.variables p.0 x p.1 p.2 defined))
       (side-cases S.vars s x own)
@@ -87,7 +97,8 @@ module _ (L : Laws) (S : Tables) (s : Side) (order : List ℕ) (right : IsScanOr
   own-table : (place : ℕ) (table : Table) (x : ℕ) (r : Read) → slice_get S.tables place ≡ Some table → is_for (section_of s) x table ≡ true
       → Contains (grid_reads table.grid) r → on_side S.vars S.memories s r ≡ true
   own-table place table x r there own c =
-      let its = same_section table.section (section_of s) (and_parts (is_section table.section (section_of s)) (defines table.grid x) own).0 in
+      let its = same_section table.section (section_of s) (and_parts (is_section table.section (section_of s)) (defines table.grid x) own).0
+      in
       may-on S.vars S.memories s r (subst (λ n. may_read S.vars S.memories n r ≡ true) its (S.sound.tables_read place table r there c))
 
   has-target : (targets : List ℕ) (row : ℕ) → slice_get targets row ≡ Some k → list_any (λ target. target == k) targets ≡ true
@@ -104,21 +115,26 @@ module _ (L : Laws) (S : Tables) (s : Side) (order : List ℕ) (right : IsScanOr
         → AreKnown S s planned.steps (length planned.steps) (flat_map cell_reads (cells_for k table.grid))
     known-cells place table there own r c = known-read r
         (subst (λ i. Contains (item_reads S.memories S.tables i) r) (sym item-is)
-        (in_all (λ (t : Table). cond (is_for section.Req k t || is_for section.Sof k t) (flat_map cell_reads (cells_for k t.grid)) []) S.tables place table r there
+        (in_all (λ (t : Table). cond (is_for section.Req k t || is_for section.Sof k t) (flat_map cell_reads (cells_for k t.grid)) [])
+        S.tables place table r there
         (subst (λ b. Contains (cond b (flat_map cell_reads (cells_for k table.grid)) []) r) (sym (of_side s k table own)) c)))
         (own-table place table k r there own (L.own_reads table.grid k r c))
 
     -- the same of a row of a vector table
     module _ (place row : ℕ) (columns : List Cond) (targets : List ℕ) (terms : List (List Term))
-        (there : slice_get S.tables place ≡ Some (record { section = section_of s; grid = Vector columns targets terms })) (target : slice_get targets row ≡ Some k) where
-      pub known-entries : AreKnown S s planned.steps (length planned.steps) (flat_map cell_reads (cells_for k (Vector columns targets terms)))
+        (there : slice_get S.tables place ≡ Some (record { section = section_of s; grid = Vector columns targets terms }))
+        (target : slice_get targets row ≡ Some k) where
+      pub known-entries : AreKnown S s planned.steps (length planned.steps)
+          (flat_map cell_reads (cells_for k (Vector columns targets terms)))
       known-entries = known-cells place (record { section = section_of s; grid = Vector columns targets terms }) there
-          (is_for_from (section_of s) k (record { section = section_of s; grid = Vector columns targets terms }) refl (has-target targets row target))
+          (is_for_from (section_of s) k (record { section = section_of s; grid = Vector columns targets terms }) refl
+          (has-target targets row target))
 
       -- and of its columns
       pub known-columns : AreKnown S s planned.steps (length planned.steps) (flat_map cond_reads columns)
       known-columns r c = known-entries r
-          (column-reads columns targets terms (all_at (λ (t : Table). is_shaped t.grid) S.tables place _ S.sound.shapes there) row k r target c)
+          (column-reads columns targets terms (all_at (λ (t : Table). is_shaped t.grid) S.tables place _ S.sound.shapes there) row k r
+          target c)
 
   -- what a memory of the side reads is known
   pub known-memory : (m : ℕ) → k ≡ length S.vars + m → is_memory_of S.memories s m ≡ true

@@ -39,7 +39,8 @@ module _ (L : Laws) (S : Tables) (a b : Reading) (n : ℕ) (same : (j x : ℕ) �
       ∙ L.same_value (look S a j) (look S b j) e (λ r k. look_alike s j l r (on r k))
       ∙ sym (L.same_value (at_scan S b (memory_at S b) j) (look S b j) e (λ r k. L.ageless S s b j r (on r k)))
 
-  told_alike : (from m : ℕ) (memory : Memory) (run : Running) → slice_get S.memories m ≡ Some memory → WasToldSince S a from n memory run → WasToldSince S b from n memory run
+  told_alike : (from m : ℕ) (memory : Memory) (run : Running) → slice_get S.memories m ≡ Some memory → WasToldSince S a from n memory run
+      → WasToldSince S b from n memory run
   told_alike from m (Held name s c hold) (Timer t) there told =
       (told.0, λ j low l. told.1 j low l ∙ truth_alike s c (λ r k. S.sound.memories_read m _ r there k) j l)
   told_alike from m (Hyst name s e lo hi start) (Band u) there told =

@@ -1,5 +1,6 @@
 -- Scans counted from the last that begins: what a timer and a band say of them, and where a running memory would be reset.
-use Rattle.std.proofs.Common.{◌≡◌, ◌∙◌, sym, ap, refl, ℕ, zero, suc, ◌+◌, ◌-◌, ◌≤◌, ℤ, pos, ◌*ℤ◌, Bool, false, ◌&&◌, ◌||◌, List, [], ◌∷◌, map, arith}
+use Rattle.std.proofs.Common.{◌≡◌, ◌∙◌, sym, ap, refl, ℕ, zero, suc, ◌+◌, ◌-◌, ◌≤◌, ℤ, pos, ◌*ℤ◌, Bool, false, ◌&&◌, ◌||◌, List, [], ◌∷◌}
+use Rattle.std.proofs.Common.{map, arith}
 use Rattle.std.specs.Prelude.{int_le}
 use Rattle.std.specs.List.{list_any, list_all, range_with_len}
 use Rattle.std.proofs.lemmas.Bool.{cond-false}
@@ -42,16 +43,17 @@ pub ago_moved : (S : Tables) (a : Reading) (from n j : ℕ) → ago S.period (n 
 ago_moved S a from n j = let back : (n - from) - j ≡ n - (from + j) = omega arith in ap (λ k. pos k *ℤ S.period) back
 
 -- a scan after another doesn't begin: neither a running memory nor the values before are ever reset, and here they would be
-goes_on : (S : Tables) (a : Reading) (k : ℕ) → begins S a (suc k) ≡ false
-goes_on S a k = refl
+next_follows : (S : Tables) (a : Reading) (k : ℕ) → begins S a (suc k) ≡ false
+next_follows S a k = refl
 
 -- so one scan before it is the scan before
 pub before_next : (S : Tables) (a : Reading) (k x : ℕ) → before S a (suc k) x ≡ a k x
-before_next S a k x = cond-false (begins S a (suc k)) (init_of S x) (a k x) (goes_on S a k)
+before_next S a k x = cond-false (begins S a (suc k)) (init_of S x) (a k x) (next_follows S a k)
 
 module _ (L : Laws) where
   -- so does a band
-  hyst_on : (from t : ℕ) (lo hi : ℤ) (start : Bool) (e : ℕ → ℤ) → hyst 0 lo hi start (λ j. e (from + j)) t ≡ hyst from lo hi start e (from + t)
+  hyst_on : (from t : ℕ) (lo hi : ℤ) (start : Bool) (e : ℕ → ℤ) → hyst 0 lo hi start (λ j. e (from + j)) t
+      ≡ hyst from lo hi start e (from + t)
   hyst_on from zero lo hi start e =
       let at : from + 0 ≡ from = omega arith in
       L.hyst_begins lo hi start (λ j. e (from + j)) 0 ∙ ap (λ k. next_bit lo hi start (e k)) at ∙ sym (L.hyst_begins lo hi start e from)
@@ -73,9 +75,9 @@ module _ (L : Laws) where
   -- and the last scan that begins is that of the scan before
   pub begun_stays : (S : Tables) (a : Reading) (n : ℕ) → begun S a (scan_before n) ≡ begun S a n
   begun_stays S a zero = refl
-  begun_stays S a (suc k) = sym (L.begun_past S a k (goes_on S a k))
+  begun_stays S a (suc k) = sym (L.begun_past S a k (next_follows S a k))
 
   -- and the same for every reading
   pub begun_alike : (S : Tables) (a b : Reading) (n : ℕ) → begun S a n ≡ begun S b n
   begun_alike S a b zero = let l = L.begun_low S a zero in let m = L.begun_low S b zero in omega (arith, l, m)
-  begun_alike S a b (suc k) = L.begun_past S a k (goes_on S a k) ∙ begun_alike S a b k ∙ sym (L.begun_past S b k (goes_on S b k))
+  begun_alike S a b (suc k) = L.begun_past S a k (next_follows S a k) ∙ begun_alike S a b k ∙ sym (L.begun_past S b k (next_follows S b k))

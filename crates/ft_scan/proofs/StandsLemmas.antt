@@ -1,5 +1,6 @@
 -- A scanner that stands for a trace stands for the one over a scan more once the scan was taken.
-use Rattle.std.proofs.Common.{◌≡◌, ◌∙◌, sym, ap, subst, refl, ℕ, suc, ◌+◌, ◌<◌, ℤ, pos, false, List, [], ◌∷◌, ◌++◌, map, length, slice_get, slice_index_or, Some, arith, ⊎_elim, true≢false}
+use Rattle.std.proofs.Common.{◌≡◌, ◌∙◌, sym, ap, subst, refl, ℕ, suc, ◌+◌, ◌<◌, ℤ, pos, false, List, [], ◌∷◌, ◌++◌, map, length, slice_get}
+use Rattle.std.proofs.Common.{slice_index_or, Some, arith, ⊎_elim, true≢false}
 use Rattle.std.specs.Prelude.{IsTrue}
 use Rattle.std.proofs.lemmas.Bool.{cases_Bool}
 use Rattle.std.proofs.lemmas.List.{length_push, get_or_push}
@@ -22,7 +23,8 @@ use Rattle.ft_scan.specs.steps.Put.{ArePut, AreTold}
 use Rattle.ft_scan.specs.steps.Stands.{Kept, Stands, rows_at}
 use Rattle.ft_scan.specs.steps.Told.{IsScan, IsTold, IsRight, RunsFor}
 use Rattle.ft_scan.proofs.ListedLemmas.{listed, listed_at, of_var}
-use Rattle.ft_scan.proofs.LongerLemmas.{reading_last, list_longer, before_alike}
+use Rattle.ft_mean.specs.laws.Ends.{last-tells}
+use Rattle.ft_scan.proofs.LongerLemmas.{list_longer, before_alike}
 use Rattle.ft_scan.proofs.RunLemmas.{runs_alike}
 use Rattle.ft_scan.proofs.SinceLemmas.{before_next}
 use Rattle.ft_scan.specs.laws.Laws.{Laws}
@@ -42,20 +44,26 @@ row_is row (p ∷ places) (v ∷ values) long told =
 pub rows_at-push : (places : List ℕ) (scans : List (List ℤ)) (row values : List ℤ) → map (λ p. slice_index_or row p (pos 0)) places ≡ values
     → rows_at places (scans ++ row ∷ []) ≡ rows_at places scans ++ values ∷ []
 rows_at-push places [] row values is = ap (λ r. r ∷ []) is
-rows_at-push places (scan ∷ scans) row values is = ap (λ rest. map (λ p. slice_index_or scan p (pos 0)) places ∷ rest) (rows_at-push places scans row values is)
+rows_at-push places (scan ∷ scans) row values is = ap (λ rest. map (λ p. slice_index_or scan p (pos 0)) places ∷ rest)
+    (rows_at-push places scans row values is)
 
--- a scanner that was told these scans and keeps this goes on by a given row: with the next frame and the scans then told it tells the values,
+-- a scanner that was told these scans and keeps this goes on by a given row: with the next frame and the scans then told it tells the
+-- values,
 
 -- and stands for one scan more
-pub record GoesOnBy (S : Tables) (sc : Kept) (past : List (List ℤ)) (given values : List ℤ) (next : Frame) (told : List (List ℤ)) : Type 0 where
-  pub given_is : rows_at sc.given told ≡ rows_at sc.given past ++ given ∷ []
-  pub rows_are : rows_at sc.side_variables told ≡ rows_at sc.side_variables past ++ values ∷ []
-  pub stands : Stands S (record { side = sc.side; steps = sc.steps; given = sc.given; side_variables = sc.side_variables; frame = next }) (rows_at sc.given told) (rows_at sc.side_variables told)
+pub record GoesOnBy (S : Tables) (sc : Kept) (past : List (List ℤ)) (given values : List ℤ) (next : Frame) (told : List (List ℤ)) : Type 0
+  where
+    pub given_is : rows_at sc.given told ≡ rows_at sc.given past ++ given ∷ []
+    pub rows_are : rows_at sc.side_variables told ≡ rows_at sc.side_variables past ++ values ∷ []
+    pub stands : Stands S (record { side = sc.side; steps = sc.steps; given = sc.given; side_variables = sc.side_variables; frame = next })
+        (rows_at sc.given told) (rows_at sc.side_variables told)
 
-module _ (L : Laws) (S : Tables) (proper : AllProper S) (sc : Kept) (earlier rows : Scans) (given : List ℤ) (stands : Stands S sc earlier rows)
+module _ (L : Laws) (S : Tables) (proper : AllProper S) (sc : Kept) (earlier rows : Scans) (given : List ℤ)
+    (stands : Stands S sc earlier rows)
     (in_range : IsListOf S (given_kinds sc.side) (given ∷ [])) where
   pub longer : (row : List ℤ) × Fits S sc.side (earlier ++ given ∷ []) (rows ++ row ∷ [])
-  longer = L.longer S proper sc.side earlier rows given ((list_longer L) S (given_kinds sc.side) earlier given stands.fits.is_given in_range) stands.fits
+  longer = L.longer S proper sc.side earlier rows given ((list_longer L) S (given_kinds sc.side) earlier given stands.fits.is_given
+      in_range) stands.fits
 
   abbrev row : List ℤ
   row = longer.0
@@ -83,13 +91,15 @@ module _ (L : Laws) (S : Tables) (proper : AllProper S) (sc : Kept) (earlier row
   same_past j x l = sym (L.in_front S (side_kinds sc.side) rows (row ∷ []) j x l)
 
   module _ (now : List ℤ) (put : ArePut sc.given given (length sc.given) sc.frame.now now) where
-    given_value : (x : ℕ) (v : Var) → IsVar S (given_kinds sc.side) x v → slice_index_or now x (pos 0) ≡ reading_of S (given_kinds sc.side) (given ∷ []) 0 x
+    given_value : (x : ℕ) (v : Var) → IsVar S (given_kinds sc.side) x v → slice_index_or now x (pos 0)
+        ≡ reading_of S (given_kinds sc.side) (given ∷ []) 0 x
     given_value x v is =
         let at = (listed L) S (given_kinds sc.side) sc.given stands.given_places x v is in
         put.put (place_of (given_kinds sc.side) S.vars x) x (slice_get_within sc.given (place_of (given_kinds sc.side) S.vars x) x at) at
         ∙ sym (L.at_place S (given_kinds sc.side) (given ∷ []) 0 x v is)
 
-    not_given : (x : ℕ) (v : Var) → slice_get S.vars x ≡ Some v → given_kinds sc.side x v ≡ false → (k : ℕ) → k < length sc.given → slice_get sc.given k ≡ Some x → ⊥
+    not_given : (x : ℕ) (v : Var) → slice_get S.vars x ≡ Some v → given_kinds sc.side x v ≡ false → (k : ℕ) → k < length sc.given
+        → slice_get sc.given k ≡ Some x → ⊥
     not_given x v e off k l f =
         let at = (listed_at L) S (given_kinds sc.side) sc.given stands.given_places k x f in
         true≢false (sym at.1.1 ∙ ap (λ (u : Var). given_kinds sc.side x u) (same_Some at.0 v (sym at.1.0 ∙ e)) ∙ off)
@@ -101,7 +111,14 @@ module _ (L : Laws) (S : Tables) (proper : AllProper S) (sc : Kept) (earlier row
         (cases_Bool (given_kinds sc.side x v))
 
     -- once the given values are put in, it has of the reading what a scan begins with
-    begins : IsTold S sc.side sc.steps a n 0 (record { now = now; past = sc.frame.past; truths = sc.frame.truths; columns = sc.frame.columns; runs = sc.frame.runs })
+    begins : IsTold S sc.side sc.steps a n 0 (record {
+      now = now;
+      past = sc.frame.past;
+      truths = sc.frame.truths;
+      columns =
+          sc.frame.columns;
+      runs = sc.frame.runs;
+    })
     begins = record {
       is_frame = record {
         now = put.width ∙ stands.is_frame.now;
@@ -113,9 +130,11 @@ module _ (L : Laws) (S : Tables) (proper : AllProper S) (sc : Kept) (earlier row
         past_in_range = stands.is_frame.past_in_range;
       };
       past = λ x v is. stands.past x v is ∙ before_alike S (side_reading S sc.side rows) a n x (λ j l. same_past j x l);
-      given = λ x v is. given_value x v is ∙ sym (reading_last S (given_kinds sc.side) earlier given n x (sym stands.fits.lengths)) ∙ sym (fits.same_given n x v (omega (arith, long)) is);
+      given = λ x v is. given_value x v is ∙ sym (last-tells S (given_kinds sc.side) earlier given n x (sym stands.fits.lengths))
+          ∙ sym (fits.same_given n x v (omega (arith, long)) is);
       found = λ q one l e. absurd (omega (arith, l));
-      waits = λ m q l e. (runs_alike L) S (side_reading S sc.side rows) a n same_past m sc.frame (stands.runs m (stands.plan.follows q (step.Memory m) e).there);
+      waits = λ m q l e. (runs_alike L) S (side_reading S sc.side rows) a n same_past m sc.frame
+          (stands.runs m (stands.plan.follows q (step.Memory m) e).there);
     }
 
   -- the frame with these values in it
@@ -134,7 +153,8 @@ module _ (L : Laws) (S : Tables) (proper : AllProper S) (sc : Kept) (earlier row
 
     -- what makes all the steps of a scan leaves what the reading has
     pub ended : (frame : Frame)
-        → ((b : Reading) (t : ℕ) → IsScan S sc.side b t → IsTold S sc.side steps b t 0 (begun now) → IsTold S sc.side steps b t (length steps) frame)
+        → ((b : Reading) (t : ℕ) → IsScan S sc.side b t → IsTold S sc.side steps b t 0 (begun now)
+        → IsTold S sc.side steps b t (length steps) frame)
         → IsTold S sc.side sc.steps a n (length sc.steps) frame
     ended frame run = subst (λ xs. IsTold S sc.side xs a n (length xs) frame) same_steps (run a n scan begun_told)
 
@@ -166,10 +186,12 @@ module _ (L : Laws) (S : Tables) (proper : AllProper S) (sc : Kept) (earlier row
     pub given_row : map (λ p. slice_index_or frame.now p (pos 0)) sc.given ≡ given
     given_row = row_is frame.now sc.given given (in_range.widths 0 (omega arith) ∙ sym stands.given_places.count) (λ k p l e.
         let at = (listed_at L) S (given_kinds sc.side) sc.given stands.given_places k p e in
-        sym (told.given p at.0 at.1 ∙ fits.same_given n p at.0 (omega (arith, long)) at.1 ∙ reading_last S (given_kinds sc.side) earlier given n p (sym stands.fits.lengths)
+        sym (told.given p at.0 at.1 ∙ fits.same_given n p at.0 (omega (arith, long)) at.1
+        ∙ last-tells S (given_kinds sc.side) earlier given n p (sym stands.fits.lengths)
         ∙ L.at_place S (given_kinds sc.side) (given ∷ []) 0 p at.0 at.1 ∙ ap (λ j. slice_index_or given j (pos 0)) at.2))
 
-    module _ (values : List ℤ) (width : length values ≡ count_of (side_kinds sc.side) S.vars) (out : AreTold sc.side_variables frame.now (length sc.side_variables) values) where
+    module _ (values : List ℤ) (width : length values ≡ count_of (side_kinds sc.side) S.vars)
+        (out : AreTold sc.side_variables frame.now (length sc.side_variables) values) where
       -- so what is told is the trace's row
       same_row : row ≡ values
       same_row = L.same_rows S (side_kinds sc.side) row values
@@ -177,9 +199,10 @@ module _ (L : Laws) (S : Tables) (proper : AllProper S) (sc : Kept) (earlier row
           width
           (λ x v is. let at = (listed L) S (side_kinds sc.side) sc.side_variables stands.side_places x v is in
           sym (L.at_place S (side_kinds sc.side) (row ∷ []) 0 x v is)
-          ∙ sym (reading_last S (side_kinds sc.side) rows row n x refl)
+          ∙ sym (last-tells S (side_kinds sc.side) rows row n x refl)
           ∙ sym (known x v is)
-          ∙ sym (out (place_of (side_kinds sc.side) S.vars x) x (slice_get_within sc.side_variables (place_of (side_kinds sc.side) S.vars x) x at) at))
+          ∙ sym (out (place_of (side_kinds sc.side) S.vars x) x (slice_get_within sc.side_variables (place_of (side_kinds sc.side) S.vars x)
+          x at) at))
 
       -- it stands at the places of the side's variables
       pub told_row : map (λ p. slice_index_or frame.now p (pos 0)) sc.side_variables ≡ values
@@ -187,11 +210,26 @@ module _ (L : Laws) (S : Tables) (proper : AllProper S) (sc : Kept) (earlier row
 
       -- once the values have become those of the scan before, it stands for one scan more
       pub stands_longer : (next : Frame) → next ≡ passed frame
-          → Stands S (record { side = sc.side; steps = sc.steps; given = sc.given; side_variables = sc.side_variables; frame = next }) (earlier ++ given ∷ []) (rows ++ values ∷ [])
+          → Stands S (record { side = sc.side; steps = sc.steps; given = sc.given; side_variables = sc.side_variables; frame = next })
+          (earlier ++ given ∷ []) (rows ++ values ∷ [])
       stands_longer next is =
           let more : suc n ≡ length (rows ++ row ∷ []) = omega (arith, long) in
-          subst (λ f. Stands S (record { side = sc.side; steps = sc.steps; given = sc.given; side_variables = sc.side_variables; frame = f }) (earlier ++ given ∷ []) (rows ++ values ∷ [])) (sym is)
-          (subst (λ z. Stands S (record { side = sc.side; steps = sc.steps; given = sc.given; side_variables = sc.side_variables; frame = passed frame }) (earlier ++ given ∷ []) (rows ++ z ∷ [])) same_row
+          subst (λ f. Stands S (record {
+            side = sc.side;
+            steps = sc.steps;
+            given = sc.given;
+            side_variables = sc.side_variables;
+            frame =
+                f;
+          }) (earlier ++ given ∷ []) (rows ++ values ∷ [])) (sym is)
+          (subst (λ z. Stands S (record {
+            side = sc.side;
+            steps = sc.steps;
+            given = sc.given;
+            side_variables = sc.side_variables;
+            frame =
+                passed frame;
+          }) (earlier ++ given ∷ []) (rows ++ z ∷ [])) same_row
           (record {
             fits = fits;
             past = λ x v of. known x v of ∙ sym (before_next S a n x) ∙ ap (λ k. before S a k x) more;
@@ -210,23 +248,44 @@ module _ (L : Laws) (S : Tables) (proper : AllProper S) (sc : Kept) (earlier row
             side_places = stands.side_places;
           }))
 
-module _ (L : Laws) (S : Tables) (proper : AllProper S) (sc : Kept) (past : List (List ℤ)) (given : List ℤ) (stands : Stands S sc (rows_at sc.given past) (rows_at sc.side_variables past))
+module _ (L : Laws) (S : Tables) (proper : AllProper S) (sc : Kept) (past : List (List ℤ)) (given : List ℤ)
+    (stands : Stands S sc (rows_at sc.given past) (rows_at sc.side_variables past))
     (in_range : IsListOf S (given_kinds sc.side) (given ∷ []))
-    (frame : Frame) (told : IsTold S sc.side sc.steps (a L S proper sc (rows_at sc.given past) (rows_at sc.side_variables past) given stands in_range)
+    (frame : Frame) (told : IsTold S sc.side sc.steps (a L S proper sc (rows_at sc.given past) (rows_at sc.side_variables past) given stands
+    in_range)
     (n L S proper sc (rows_at sc.given past) (rows_at sc.side_variables past) given stands in_range) (length sc.steps) frame)
-    (values : List ℤ) (width : length values ≡ count_of (side_kinds sc.side) S.vars) (out : AreTold sc.side_variables frame.now (length sc.side_variables) values) where
-  pub goes_on : (next : Frame) → next ≡ passed frame → (scans : List (List ℤ)) → scans ≡ past ++ next.past ∷ [] → GoesOnBy S sc past given values next scans
+    (values : List ℤ) (width : length values ≡ count_of (side_kinds sc.side) S.vars)
+    (out : AreTold sc.side_variables frame.now (length sc.side_variables) values) where
+  pub goes_on : (next : Frame) → next ≡ passed frame → (scans : List (List ℤ)) → scans ≡ past ++ next.past ∷ []
+      → GoesOnBy S sc past given values next scans
   goes_on next is scans are =
       let now : next.past ≡ frame.now = ap (λ (f : Frame). f.past) is in
       let all : scans ≡ past ++ frame.now ∷ [] = are ∙ ap (λ row. past ++ row ∷ []) now in
       let given_is : rows_at sc.given scans ≡ rows_at sc.given past ++ given ∷ [] = ap (rows_at sc.given) all
-      ∙ rows_at-push sc.given past frame.now given ((given_row L) S proper sc (rows_at sc.given past) (rows_at sc.side_variables past) given stands in_range frame told) in
+      ∙ rows_at-push sc.given past frame.now given ((given_row L) S proper sc (rows_at sc.given past) (rows_at sc.side_variables past) given
+      stands in_range frame told) in
       let rows_are : rows_at sc.side_variables scans ≡ rows_at sc.side_variables past ++ values ∷ [] = ap (rows_at sc.side_variables) all
-      ∙ rows_at-push sc.side_variables past frame.now values ((told_row L) S proper sc (rows_at sc.given past) (rows_at sc.side_variables past) given stands in_range frame told values width out) in
+      ∙ rows_at-push sc.side_variables past frame.now values ((told_row L) S proper sc (rows_at sc.given past)
+      (rows_at sc.side_variables past) given stands in_range frame told values width out) in
       record {
         given_is = given_is;
         rows_are = rows_are;
-        stands = subst (λ h. Stands S (record { side = sc.side; steps = sc.steps; given = sc.given; side_variables = sc.side_variables; frame = next }) h (rows_at sc.side_variables scans)) (sym given_is)
-            (subst (Stands S (record { side = sc.side; steps = sc.steps; given = sc.given; side_variables = sc.side_variables; frame = next }) (rows_at sc.given past ++ given ∷ [])) (sym rows_are)
-            ((stands_longer L) S proper sc (rows_at sc.given past) (rows_at sc.side_variables past) given stands in_range frame told values width out next is));
+        stands = subst (λ h. Stands S (record {
+          side = sc.side;
+          steps = sc.steps;
+          given = sc.given;
+          side_variables =
+              sc.side_variables;
+          frame = next;
+        }) h (rows_at sc.side_variables scans)) (sym given_is)
+            (subst (Stands S (record {
+              side = sc.side;
+              steps = sc.steps;
+              given = sc.given;
+              side_variables = sc.side_variables;
+              frame =
+                  next;
+            }) (rows_at sc.given past ++ given ∷ [])) (sym rows_are)
+            ((stands_longer L) S proper sc (rows_at sc.given past) (rows_at sc.side_variables past) given stands in_range frame told values
+            width out next is));
       }

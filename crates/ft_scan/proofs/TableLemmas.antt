@@ -16,13 +16,16 @@ use Rattle.ft_scan.specs.steps.Found.{IsFound, IsTableFor}
 use Rattle.ft_mean.specs.judge.Safe.{KeepsSizes, IsSafeGrid}
 use Rattle.ft_scan.specs.laws.Laws.{Laws}
 
-pub all_at : {A : Type 0} (test : A → Bool) (xs : List A) (k : ℕ) (x : A) → list_all test xs ≡ true → slice_get xs k ≡ Some x → test x ≡ true
+pub all_at : {A : Type 0} (test : A → Bool) (xs : List A) (k : ℕ) (x : A) → list_all test xs ≡ true → slice_get xs k ≡ Some x → test x
+    ≡ true
 all_at test [] k x h e = absurd (none-some x e)
 all_at test (y ∷ xs) zero x h e = subst (λ z. test z ≡ true) (same_Some y x e) (and_parts (test y) (list_all test xs) h).0
 all_at test (y ∷ xs) (suc k) x h e = all_at test xs k x (and_parts (test y) (list_all test xs) h).1 e
 
-pub for_it : (tables : List Table) (section : Section) (x place : ℕ) → IsTableFor tables section x place → (t : Table) → slice_get tables place ≡ Some t → IsTrue (is_for section x t)
-for_it tables section x place at t there = subst (λ u. IsTrue (is_for section x u)) (same_Some at.table t (sym at.there ∙ there)) at.is_for_it
+pub for_it : (tables : List Table) (section : Section) (x place : ℕ) → IsTableFor tables section x place → (t : Table)
+    → slice_get tables place ≡ Some t → IsTrue (is_for section x t)
+for_it tables section x place at t there = subst (λ u. IsTrue (is_for section x u)) (same_Some at.table t (sym at.there ∙ there))
+    at.is_for_it
 
 module _ (S : Tables) (place : ℕ) (table : Table) (there : slice_get S.tables place ≡ Some table) where
   pub grid_shaped : IsTrue (is_shaped table.grid)
@@ -36,7 +39,8 @@ module _ (S : Tables) (place : ℕ) (table : Table) (there : slice_get S.tables 
     small = all_at (λ table. is_sized_grid S.vars S.memories table.grid) S.tables place table S.sound.sized_tables there;
   }
 
-module _ (L : Laws) (S : Tables) (section : Section) (x place : ℕ) (table : Table) (there : slice_get S.tables place ≡ Some table) (mine : IsTrue (is_for section x table)) where
+module _ (L : Laws) (S : Tables) (section : Section) (x place : ℕ) (table : Table) (there : slice_get S.tables place ≡ Some table)
+    (mine : IsTrue (is_for section x table)) where
   cells_are : cells_of S section x ≡ cells_for x table.grid
   cells_are = L.cells_are S section x place table there mine
 

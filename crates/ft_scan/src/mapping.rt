@@ -2,7 +2,8 @@ ghost use Rattle.std.specs.Prelude.{◌≡◌, ◌==◌, ◌∷◌, [], ℕ, IsT
 ghost use Rattle.std.specs.List.{list_any};
 ghost use Rattle.ft_core.specs.declared.tables.Section.TheVariants.{Out};
 ghost use Rattle.ft_core.specs.meaning.Grids.{defines, is_for};
-ghost use Rattle.ft_core.specs.meaning.Kinds.{monitored, inputs, outputs, controlled, count_of, place_of, defined_kinds, makes_image, is_of};
+ghost use Rattle.ft_core.specs.meaning.Kinds.{monitored, inputs, outputs, controlled, count_of, place_of, defined_kinds, makes_image};
+ghost use Rattle.ft_core.specs.meaning.Kinds.{is_of};
 ghost use Rattle.ft_mean.specs.meaning.Fits.{InputMap, Maps};
 ghost use Rattle.ft_mean.specs.meaning.Proper.{AllProper};
 ghost use Rattle.ft_mean.specs.meaning.Reading.{IsListOf};
@@ -19,7 +20,8 @@ use ft_mean::Look;
 fn put_value(tables: &Tables, section: Section, variable: usize, value: i64, image: &mut [i64])
     requires image { IsTrue (makes_image section) }
     requires room { length image.old ≡ count_of (defined_kinds section) tables.now.vars }
-    ensures { image.new ≡ if is_of tables.now.vars (defined_kinds section) variable then slice_set image.old (place_of (defined_kinds section) tables.now.vars variable) value else image.old }
+    ensures { image.new ≡ if is_of tables.now.vars (defined_kinds section) variable then slice_set image.old
+        (place_of (defined_kinds section) tables.now.vars variable) value else image.old }
 {
     laws();
     let Some(var) = tables.vars.as_slice().get(variable) else {

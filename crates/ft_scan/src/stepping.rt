@@ -6,7 +6,8 @@ ghost use Rattle.ft_mean.specs.meaning.Cells.{defined};
 ghost use Rattle.ft_mean.specs.meaning.Proper.{AllProper};
 ghost use Rattle.ft_mean.specs.meaning.Reading.{Reading};
 ghost use Rattle.ft_mean.specs.judge.Safe.{KeepsSizes, IsSafeMemory};
-ghost use Rattle.ft_scan.specs.steps.Frame.{view_of, IsFrameOf, CanTake, Leaves, HasColumn, FindsColumn, HasCell, FindsCell, HasEntry, FindsEntry, AdvancesMemory};
+ghost use Rattle.ft_scan.specs.steps.Frame.{view_of, IsFrameOf, CanTake, Leaves, HasColumn, FindsColumn, HasCell, FindsCell, HasEntry};
+ghost use Rattle.ft_scan.specs.steps.Frame.{FindsEntry, AdvancesMemory};
 ghost use Rattle.ft_scan.specs.steps.Plan.{IsPlan};
 ghost use Rattle.ft_scan.specs.steps.Stepping.{sample_of, CanHear, Hears};
 ghost use Rattle.ft_scan.specs.steps.Told.{IsScan, IsTold};
@@ -46,7 +47,8 @@ impl Look for Frame {
 fn value_by(tables: &Tables, variable: usize, table: usize, frame: &Frame) -> i64
     requires keeps { KeepsSizes tables.now.vars tables.now.memories (view_of frame.now) }
     requires has { (s : Side) × HasCell tables.now s variable table frame.now }
-    ensures { (s : Side) → HasCell tables.now s variable table frame.entry.now → IsTrue (defined tables.now (section_of s) (view_of frame.entry.now) variable result) }
+    ensures { (s : Side) → HasCell tables.now s variable table frame.entry.now
+        → IsTrue (defined tables.now (section_of s) (view_of frame.entry.now) variable result) }
 {
     laws();
     let its_table = tables.tables.get(table);
@@ -166,7 +168,8 @@ pub(crate) fn run_steps(tables: &Tables, side: Side, steps: &[Step], frame: &mut
     requires proper { AllProper tables.now }
     requires plan { IsPlan tables.now side steps.now }
     requires told { (a : Reading) × (n : ℕ) × IsScan tables.now side a n × IsTold tables.now side steps.now a n 0 frame.old }
-    ensures { (a : Reading) (n : ℕ) → IsScan tables.now side a n → IsTold tables.now side steps.now a n 0 frame.old → IsTold tables.now side steps.now a n (length steps.now) frame.new }
+    ensures { (a : Reading) (n : ℕ) → IsScan tables.now side a n → IsTold tables.now side steps.now a n 0 frame.old
+        → IsTold tables.now side steps.now a n (length steps.now) frame.new }
 {
     laws();
     for step in steps {

@@ -7,7 +7,8 @@ use Rattle.ft_trace.specs.meaning.Decimal.{digit_of, digits_after}
 
 -- the digits from a place on
 pub digits-step : (field : List ℕ) (i value : ℕ) → i < length field
-    → digits_after value (drop i field) ≡ option_and_then (λ d. digits_after (value * 10 + d) (drop (i + 1) field)) (digit_of (get_or field i 0))
+    → digits_after value (drop i field) ≡ option_and_then (λ d. digits_after (value * 10 + d) (drop (i + 1) field))
+    (digit_of (get_or field i 0))
 unfolding digits_after
 digits-step field i value within = rw (drop_more field i 0 within) refl
 

@@ -1,5 +1,6 @@
 -- The header of a trace.
-use Rattle.std.proofs.Common.{◌≡◌, ◌∙◌, sym, ap, refl, ℕ, zero, suc, Bool, true, false, ◌&&◌, ◌||◌, not, List, [], ◌∷◌, length, slice_get, Option, Some, None, true≢false}
+use Rattle.std.proofs.Common.{◌≡◌, ◌∙◌, sym, ap, refl, ℕ, zero, suc, Bool, true, false, ◌&&◌, ◌||◌, not, List, [], ◌∷◌, length, slice_get}
+use Rattle.std.proofs.Common.{Option, Some, None, true≢false}
 use Rattle.std.specs.List.{list_all}
 use Rattle.std.proofs.lemmas.Option.{none-some, same_Some}
 use Rattle.std.specs.Cmp.Lexicographic.{bytes_decides}
@@ -8,7 +9,7 @@ use Rattle.ft_core.specs.meaning.Kinds.{count_of, monitored}
 use Rattle.csv.specs.Records.{field_at}
 use Rattle.ft_trace.specs.rows.Row.{is_field, is_monitored, is_named}
 use Rattle.ft_trace.specs.meaning.Spelling.{IsHeader, Row}
-use Rattle.ft_trace.proofs.PlaceLemmas.{own-place}
+use Rattle.ft_core.specs.laws.VarPlaces.{own-place}
 use Rattle.ft_trace.proofs.RowLemmas.{field-is}
 
 and-left : (a b : Bool) → (a && b) ≡ true → a ≡ true
@@ -52,11 +53,13 @@ pub header-is : (S : Tables) (row : Row) → length row ≡ count_of monitored S
 header-is S row wide all = record {
   width = wide;
   names = λ x v is.
-      sym (ap (λ (p : ℕ). slice_get row p) (own-place S x v is))
+      sym (ap (λ (p : ℕ). slice_get row p) (own-place S kind.Mon x v is))
       ∙ sym (field-is row v.place)
-      ∙ field-of (field_at row v.place) v.name (or-named (is_monitored v) (is_field (field_at row v.place) v.name) is.1 (all-at (is_named row) S.vars x v all is.0));
+      ∙ field-of (field_at row v.place) v.name (or-named (is_monitored v) (is_field (field_at row v.place) v.name) is.1
+      (all-at (is_named row) S.vars x v all is.0));
 }
 
 pub header-by : (S : Tables) (row : Row) → IsHeader S row → list_all (is_named row) S.vars ≡ true
 header-by S row h = all-by (is_named row) S.vars (λ x v at. or-by (is_monitored v) (is_field (field_at row v.place) v.name)
-    (λ mon. field-by (field_at row v.place) v.name (field-is row v.place ∙ ap (λ (p : ℕ). slice_get row p) (own-place S x v (at, mon)) ∙ h.names x v (at, mon))))
+    (λ mon. field-by (field_at row v.place) v.name (field-is row v.place
+    ∙ ap (λ (p : ℕ). slice_get row p) (own-place S kind.Mon x v (at, mon)) ∙ h.names x v (at, mon))))

@@ -1,5 +1,6 @@
 -- A line of plain fields.
-use Rattle.std.proofs.Common.{◌≡◌, ◌∙◌, sym, ap, refl, ℕ, suc, ◌<◌, ◌^◌, ℤ, pos, negsuc, Bool, true, false, ◌==◌, ◌||◌, ◌&&◌, cond, List, [], ◌∷◌, ◌++◌, length, map, slice_get, Some, arith, inl, inr, unsigned_abs}
+use Rattle.std.proofs.Common.{◌≡◌, ◌∙◌, sym, ap, refl, ℕ, suc, ◌<◌, ◌^◌, ℤ, pos, negsuc, Bool, true, false, ◌==◌, ◌||◌, ◌&&◌, cond, List}
+use Rattle.std.proofs.Common.{[], ◌∷◌, ◌++◌, length, map, slice_get, Some, arith, inl, inr, unsigned_abs}
 use Rattle.std.specs.List.{filter, join_with_byte, list_all, list_any}
 use Rattle.std.specs.Fmt.{decimal, signed_decimal}
 use Rattle.std.proofs.lemmas.List.{append-nil}
@@ -28,12 +29,14 @@ plain-text : (field : List ℕ) → IsPlain field → field_text default_writer 
 plain-text field p = ap (λ b. cond b (quoted default_writer field) field) p.plain
 
 not-empty : (field : List ℕ) → IsPlain field → (length (field_text default_writer field) == 0) ≡ false
-not-empty field p = ap (λ (f : List ℕ). length f == 0) (plain-text field p ∙ p.parts) ∙ ne_eqb (length (p.first ∷ p.rest)) 0 (λ z. omega (arith, z))
+not-empty field p = ap (λ (f : List ℕ). length f == 0) (plain-text field p ∙ p.parts)
+    ∙ ne_eqb (length (p.first ∷ p.rest)) 0 (λ z. omega (arith, z))
 
 body : (x : List ℕ) (rest : List (List ℕ)) → ArePlain (x ∷ rest) → row_body default_writer (x ∷ rest) ≡ join_with_byte 44 (x ∷ rest)
 unfolding ArePlain fields_text
 body x [] p = append-nil (field_text default_writer x) ∙ plain-text x p.0
-body x (y ∷ rest) p = ap (λ (f : List ℕ). f ++ 44 ∷ row_body default_writer (y ∷ rest)) (plain-text x p.0) ∙ ap (λ (f : List ℕ). x ++ 44 ∷ f) (body y rest p.1)
+body x (y ∷ rest) p = ap (λ (f : List ℕ). f ++ 44 ∷ row_body default_writer (y ∷ rest)) (plain-text x p.0)
+    ∙ ap (λ (f : List ℕ). x ++ 44 ∷ f) (body y rest p.1)
 
 blank : (x : List ℕ) (rest : List (List ℕ)) → ArePlain (x ∷ rest) → is_blank default_writer (x ∷ rest) ≡ false
 unfolding ArePlain is_blank
@@ -57,7 +60,8 @@ unfolding ArePlain
 plain-by field [] each = tt
 plain-by field (v ∷ vars) each =
     let rest = plain-by field vars (λ k. each (suc k)) in
-    elim (is_monitored v) as (λ b. (is_monitored v ≡ b) → ArePlain (map field (cond b (v ∷ filter is_monitored vars) (filter is_monitored vars)))) [
+    elim (is_monitored v) as (λ b. (is_monitored v ≡ b) → ArePlain (map field
+    (cond b (v ∷ filter is_monitored vars) (filter is_monitored vars)))) [
       | true ↦ (λ e. (each 0 v refl e, rest))
       | false ↦ (λ e. rest)
     ] refl
@@ -114,7 +118,8 @@ name-letter b bs e = other-byte is_letter b 0xEF (and-first (is_letter b) _ (and
 -- a number is plain
 pub number-plain : (z : ℤ) → unsigned_abs z < 2 ^ 64 → IsPlain (signed_decimal z)
 number-plain (pos n) small = let d = decimal-is n small in record { first = d.first; rest = d.rest; parts = d.parts; plain = d.plain }
-number-plain (negsuc n) small = let d = decimal-is (suc n) small in record { first = 45; rest = decimal (suc n); parts = refl; plain = d.plain }
+number-plain (negsuc n) small = let d = decimal-is (suc n) small in record
+    { first = 45; rest = decimal (suc n); parts = refl; plain = d.plain }
 
 -- a line that begins by a name begins by no byte order mark
 pub named-line : (fields : List (List ℕ)) → (fields ≡ [] → ⊥) → list_all is_set_name fields ≡ true
@@ -122,4 +127,9 @@ pub named-line : (fields : List (List ℕ)) → (fields ≡ [] → ⊥) → list
 named-line [] some named = absurd (some refl)
 named-line ([] ∷ rest) some named = absurd (true≢false (sym (and-first (is_set_name []) (list_all is_set_name rest) named)))
 named-line ((b ∷ bs) ∷ []) some named = (b, bs ++ 10 ∷ [], refl, name-letter b bs (and-first (is_set_name (b ∷ bs)) _ named))
-named-line ((b ∷ bs) ∷ y ∷ rest) some named = (b, (bs ++ 44 ∷ join_with_byte 44 (y ∷ rest)) ++ 10 ∷ [], refl, name-letter b bs (and-first (is_set_name (b ∷ bs)) _ named))
+named-line ((b ∷ bs) ∷ y ∷ rest) some named = (
+  b,
+  (bs ++ 44 ∷ join_with_byte 44 (y ∷ rest)) ++ 10 ∷ [],
+  refl,
+  name-letter b bs (and-first (is_set_name (b ∷ bs)) _ named),
+)

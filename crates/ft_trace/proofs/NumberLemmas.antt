@@ -1,5 +1,6 @@
 -- Numbers that are written read back.
-use Rattle.std.proofs.Common.{◌≡◌, ◌∙◌, sym, ap, refl, ℕ, zero, suc, ◌+◌, ◌*◌, ◌/◌, ◌%◌, ◌^◌, ◌<◌, ◌≤◌, ℤ, pos, negsuc, Bool, true, false, ◌||◌, List, [], ◌∷◌, ◌++◌, length, Option, Some, None, arith, cond, ◌==◌, unsigned_abs, inl, inr}
+use Rattle.std.proofs.Common.{◌≡◌, ◌∙◌, sym, ap, refl, ℕ, zero, suc, ◌+◌, ◌*◌, ◌/◌, ◌%◌, ◌^◌, ◌<◌, ◌≤◌, ℤ, pos, negsuc, Bool, true, false}
+use Rattle.std.proofs.Common.{◌||◌, List, [], ◌∷◌, ◌++◌, length, Option, Some, None, arith, cond, ◌==◌, unsigned_abs, inl, inr}
 use Rattle.std.specs.Prelude.{nat_lt, option_map, option_and_then}
 use Rattle.std.specs.List.{list_any}
 use Rattle.std.specs.Fmt.{decimal, signed_decimal}
@@ -52,11 +53,13 @@ no-minus (suc (suc (suc (suc (suc (suc (suc (suc (suc (suc d)))))))))) l = absur
 digits-push : (ds : List ℕ) (value n d : ℕ) → d < 10 → digits_after value ds ≡ Some n
     → digits_after value (ds ++ (48 + d) ∷ []) ≡ Some (n * 10 + d)
 unfolding digits_after
-digits-push [] value n d l e = ap (λ o. option_and_then (λ x. Some (value * 10 + x)) o) (digit-is d l) ∙ ap (λ (v : ℕ). Some (v * 10 + d)) (same_Some value n e)
+digits-push [] value n d l e = ap (λ o. option_and_then (λ x. Some (value * 10 + x)) o) (digit-is d l)
+    ∙ ap (λ (v : ℕ). Some (v * 10 + d)) (same_Some value n e)
 digits-push (b ∷ bs) value n d l e = by (λ x f. digits-push bs (value * 10 + x) n d l f) (digit_of b) e
   where
     by : ((x : ℕ) → digits_after (value * 10 + x) bs ≡ Some n → digits_after (value * 10 + x) (bs ++ (48 + d) ∷ []) ≡ Some (n * 10 + d))
-        → (o : Option ℕ) → option_and_then (λ x. digits_after (value * 10 + x) bs) o ≡ Some n → option_and_then (λ x. digits_after (value * 10 + x) (bs ++ (48 + d) ∷ [])) o ≡ Some (n * 10 + d)
+        → (o : Option ℕ) → option_and_then (λ x. digits_after (value * 10 + x) bs) o ≡ Some n
+        → option_and_then (λ x. digits_after (value * 10 + x) (bs ++ (48 + d) ∷ [])) o ≡ Some (n * 10 + d)
     by h None f = absurd (none-some n f)
     by h (Some x) f = h x f
 
@@ -118,14 +121,16 @@ no-limit k o some few = elim (cases_Bool (k == 0)) [
 pub natural-is : (n : ℕ) → n < 10 ^ 18 → natural_of (decimal n) ≡ Some n
 natural-is n small =
     let wide : n < 2 ^ 64 = omega (arith, small) in
-    no-limit (length (decimal n)) (digits_after 0 (decimal n)) (decimal_nonempty n wide) (length-decimal-le 18 n (omega arith) small wide) ∙ (decimal-is n wide).value
+    no-limit (length (decimal n)) (digits_after 0 (decimal n)) (decimal_nonempty n wide) (length-decimal-le 18 n (omega arith) small wide)
+    ∙ (decimal-is n wide).value
 
 -- a number that is written reads back
 pub number-is : (z : ℤ) → unsigned_abs z < 10 ^ 18 → number_of (signed_decimal z) ≡ Some z
 number-is (pos n) small =
     let d = decimal-is n (omega (arith, small)) in
     ap number_of d.parts
-    ∙ cond-false (d.first == minus) (option_map negated (natural_of d.rest)) (option_map (λ k. pos k) (natural_of (d.first ∷ d.rest))) d.not_minus
+    ∙ cond-false (d.first == minus) (option_map negated (natural_of d.rest)) (option_map (λ k. pos k) (natural_of (d.first ∷ d.rest)))
+    d.not_minus
     ∙ ap (λ (ds : List ℕ). option_map (λ k. pos k) (natural_of ds)) (sym d.parts)
     ∙ ap (λ o. option_map (λ k. pos k) o) (natural-is n small)
 number-is (negsuc n) small = ap (λ o. option_map negated o) (natural-is (suc n) small)

@@ -9,7 +9,8 @@ use Rattle.ft_mean.specs.meaning.Reading.{Scans}
 use Rattle.ft_base.specs.Interval.{IsWithin}
 use Rattle.ft_mean.specs.laws.RowLaws.{SameRows}
 use Rattle.ft_trace.specs.meaning.Field.{field_value}
-use Rattle.ft_trace.specs.meaning.Spelling.{FaultAfter, FaultNext, FirstBad, HasNoHeader, IsFirstFault, IsNoValue, IsOutside, RecordFault, Row, SpellAll, SpellsAt, SpellsHistory, SpellsScan, SpellsSoFar}
+use Rattle.ft_trace.specs.meaning.Spelling.{FaultAfter, FaultNext, FirstBad, HasNoHeader, IsFirstFault, IsNoValue, IsOutside, RecordFault}
+use Rattle.ft_trace.specs.meaning.Spelling.{Row, SpellAll, SpellsAt, SpellsHistory, SpellsScan, SpellsSoFar}
 use Rattle.ft_trace.specs.declared.fault.TraceFault.{TraceFault}
 use Rattle.ft_trace.specs.declared.fault.TraceFault.TheVariants as faults
 
@@ -17,7 +18,8 @@ same-values : (S : Tables) (row : Row) (a b : List ℤ) (x : ℕ) (v : Var) → 
     → slice_index_or a (place_of monitored S.vars x) (pos 0) ≡ slice_index_or b (place_of monitored S.vars x) (pos 0)
 same-values S row a b x v s t =
     let fields : s.field ≡ t.field = same_Some s.field t.field (sym s.in_row ∙ t.in_row) in
-    let values : s.value ≡ t.value = same_Some s.value t.value (sym s.spells.0 ∙ ap (λ (f : List ℕ). field_value v f) fields ∙ t.spells.0) in
+    let values : s.value ≡ t.value = same_Some s.value t.value (sym s.spells.0 ∙ ap (λ (f : List ℕ). field_value v f) fields ∙ t.spells.0)
+    in
     get_or_from_slice_get a (place_of monitored S.vars x) s.value (pos 0) s.in_values ∙ values
     ∙ sym (get_or_from_slice_get b (place_of monitored S.vars x) t.value (pos 0) t.in_values)
 
@@ -45,7 +47,8 @@ same-rows S bytes h k a b =
 
 pub one-history : SameRows → (S : Tables) (bytes : List ℕ) (h k : Scans) → SpellsHistory S bytes h → SpellsHistory S bytes k → h ≡ k
 one-history same S bytes h k a b =
-    one-list same S b.spells.rows h k (subst (λ (rs : List Row). SpellAll S rs h) (same-rows S bytes h k a.spells b.spells) a.spells.spell) b.spells.spell
+    one-list same S b.spells.rows h k (subst (λ (rs : List Row). SpellAll S rs h) (same-rows S bytes h k a.spells b.spells) a.spells.spell)
+    b.spells.spell
 
 as-many : (S : Tables) (rows : List Row) (h : Scans) → SpellAll S rows h → length rows ≡ length h
 unfolding SpellAll
@@ -62,11 +65,17 @@ unfolding SpellAll
 reached S [] h [] g row rest a b e = cc e
 reached S [] h (f ∷ front) g row rest a b e = cc e
 reached S (r ∷ rows) [] front g row rest a b e = absurd a
-reached S (r ∷ rows) (x ∷ h) [] [] row rest a b e = (omega arith, x, subst (λ (z : Row). SpellsScan S z x) (tail-of r row rows rest e).0 a.0)
+reached S (r ∷ rows) (x ∷ h) [] [] row rest a b e = (
+  omega arith,
+  x,
+  subst (λ (z : Row). SpellsScan S z x) (tail-of r row rows rest e).0
+      a.0,
+)
 reached S (r ∷ rows) (x ∷ h) [] (y ∷ g) row rest a b e = absurd b
 reached S (r ∷ rows) (x ∷ h) (f ∷ front) [] row rest a b e = absurd b
 reached S (r ∷ rows) (x ∷ h) (f ∷ front) (y ∷ g) row rest a b e =
-    let more = reached S rows h front g row rest a.1 b.1 (tail-of r f rows (front ++ row ∷ rest) e).1 in (omega (arith, more.0), more.1, more.2)
+    let more = reached S rows h front g row rest a.1 b.1 (tail-of r f rows (front ++ row ∷ rest) e).1 in
+    (omega (arith, more.0), more.1, more.2)
 
 not-bad : (S : Tables) (row : Row) (scan : List ℤ) (column : ℕ) → SpellsScan S row scan → FirstBad S row column IsNoValue → ⊥
 not-bad S row scan column s f =
@@ -78,7 +87,8 @@ not-outside : (S : Tables) (row : Row) (scan : List ℤ) (column : ℕ) → Spel
 not-outside S row scan column s f =
     let at = s.each f.x f.v f.is in
     let fields : at.field ≡ f.field = same_Some at.field f.field (sym at.in_row ∙ f.at) in
-    let same : at.value ≡ f.is_bad.0 = same_Some at.value f.is_bad.0 (sym at.spells.0 ∙ ap (λ (z : List ℕ). field_value f.v z) fields ∙ f.is_bad.1) in
+    let same : at.value ≡ f.is_bad.0 = same_Some at.value f.is_bad.0 (sym at.spells.0 ∙ ap (λ (z : List ℕ). field_value f.v z) fields
+    ∙ f.is_bad.1) in
     f.is_bad.2 (subst (λ (z : ℤ). IsWithin f.v.range z) same at.spells.1)
 
 no-row-fault : (S : Tables) (k : ℕ) (row : Row) (scan : List ℤ) (f : TraceFault) → SpellsScan S row scan → k < 100000

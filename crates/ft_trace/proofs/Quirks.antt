@@ -35,7 +35,8 @@ unfolding records_from next_record
 quoted-names = refl
 
 -- a byte order mark further on belongs to its field
-late-mark : records default_config (strip_bom (codes "x\n" ++ 0xEF ∷ 0xBB ∷ 0xBF ∷ codes "0\n")) ≡ (codes "x" ∷ []) ∷ ((0xEF ∷ 0xBB ∷ 0xBF ∷ codes "0") ∷ []) ∷ []
+late-mark : records default_config (strip_bom (codes "x\n" ++ 0xEF ∷ 0xBB ∷ 0xBF ∷ codes "0\n")) ≡ (codes "x" ∷ [])
+    ∷ ((0xEF ∷ 0xBB ∷ 0xBF ∷ codes "0") ∷ []) ∷ []
 unfolding records_from next_record strip_bom
 late-mark = refl
 
@@ -50,6 +51,7 @@ unfolding digits_after
 digits = (refl, refl)
 
 -- no sign but a minus, no blank, and no digit at all is no number
-no-numbers : (number_of (codes "+1") ≡ None) × (number_of (codes " 1") ≡ None) × (number_of (codes "-") ≡ None) × (number_of [] ≡ None) × (number_of (codes "--1") ≡ None)
+no-numbers : (number_of (codes "+1") ≡ None) × (number_of (codes " 1") ≡ None) × (number_of (codes "-") ≡ None) × (number_of [] ≡ None)
+    × (number_of (codes "--1") ≡ None)
 unfolding digits_after
 no-numbers = (refl, refl, refl, refl, refl)

@@ -1,12 +1,14 @@
 -- What a reader stands for, one scan at a time.
-use Rattle.std.proofs.Common.{◌≡◌, ◌∙◌, sym, ap, subst, refl, ℕ, ◌+◌, ◌-◌, ◌<◌, ◌≤◌, ℤ, List, [], ◌∷◌, ◌++◌, length, Option, Some, None, arith, append_assoc}
+use Rattle.std.proofs.Common.{◌≡◌, ◌∙◌, sym, ap, subst, refl, ℕ, ◌+◌, ◌-◌, ◌<◌, ◌≤◌, ℤ, List, [], ◌∷◌, ◌++◌, length, Option, Some, None}
+use Rattle.std.proofs.Common.{arith, append_assoc}
 use Rattle.std.specs.Prelude.{◌≢◌}
 use Rattle.std.proofs.lemmas.List.{length-append}
 use Rattle.ft_core.specs.declared.tables.Tables.{Tables}
 use Rattle.ft_mean.specs.meaning.Reading.{Scans}
 use Rattle.ft_trace.specs.meaning.Left.{Left}
 use Rattle.ft_trace.specs.meaning.Reader.{HasGiven, IsEnd}
-use Rattle.ft_trace.specs.meaning.Spelling.{FaultNext, IsFirstFault, IsHeader, NextScan, Row, SpellAll, SpellsHistory, SpellsScan, SpellsSoFar, records_of}
+use Rattle.ft_trace.specs.meaning.Spelling.{FaultNext, IsFirstFault, IsHeader, NextScan, Row, SpellAll, SpellsHistory, SpellsScan}
+use Rattle.ft_trace.specs.meaning.Spelling.{SpellsSoFar, records_of}
 use Rattle.ft_trace.specs.declared.fault.TraceFault.{TraceFault}
 use Rattle.ft_trace.specs.declared.fault.TraceFault.TheVariants as faults
 use Rattle.ft_trace.specs.declared.reading.End.{End}
@@ -32,7 +34,8 @@ module _ (S : Tables) (bytes : List ℕ) (h : Scans) where
   one-more rest more values s n = record {
     header = s.header;
     rows = s.rows ++ n.row ∷ [];
-    records = s.records ∙ ap (λ (rs : List Row). s.header ∷ (s.rows ++ rs)) n.next ∙ ap (λ (rs : List Row). s.header ∷ rs) (sym (append_assoc s.rows (n.row ∷ []) more));
+    records = s.records ∙ ap (λ (rs : List Row). s.header ∷ (s.rows ++ rs)) n.next
+        ∙ ap (λ (rs : List Row). s.header ∷ rs) (sym (append_assoc s.rows (n.row ∷ []) more));
     is_header = s.is_header;
     spell = spell-more S s.rows h n.row values s.spell n.spells;
     few = omega (arith, n.few, length-append h (values ∷ []));
@@ -40,7 +43,11 @@ module _ (S : Tables) (bytes : List ℕ) (h : Scans) where
 
   -- the records are all read
   pub whole : (rest : List Row) → SpellsSoFar S bytes h rest → rest ≡ [] → length h ≢ 0 → SpellsHistory S bytes h
-  whole rest s e some = record { spells = subst (λ (rs : List Row). SpellsSoFar S bytes h rs) e s; nonempty = λ none. some (ap length none) }
+  whole rest s e some = record {
+    spells = subst (λ (rs : List Row). SpellsSoFar S bytes h rs) e s;
+    nonempty =
+        λ none. some (ap length none);
+  }
 
   -- the fault that stands next is the first of the bytes
   pub first-fault : (rest : List Row) (fault : TraceFault) → SpellsSoFar S bytes h rest → FaultNext S (length h) rest fault
@@ -71,7 +78,8 @@ module _ (S : Tables) (bytes : List ℕ) (h : Scans) where
     pub gives : reader.ended ≡ None → (values : List ℤ) (new : Left) → new.scans ≡ reader.scans + 1 → new.ended ≡ None
         → NextScan S reader.scans reader.rest values new.rest → HasGiven S bytes new (h ++ values ∷ [])
     gives e values new one going n =
-        let s = one-more reader.rest new.rest values (open-end e) (subst (λ (k : ℕ). NextScan S k reader.rest values new.rest) given.count n) in
+        let s = one-more reader.rest new.rest values (open-end e) (subst (λ (k : ℕ). NextScan S k reader.rest values new.rest) given.count
+        n) in
         record {
           count = omega (arith, one, given.count, length-append h (values ∷ []));
           after = new.rest;
@@ -82,7 +90,13 @@ module _ (S : Tables) (bytes : List ℕ) (h : Scans) where
     -- the end was met
     pub meets-end : reader.ended ≡ None → (more : List Row) → reader.rest ≡ [] → reader.scans ≢ 0
         → HasGiven S bytes (record { rest = more; scans = reader.scans; ended = Some end.Whole }) h
-    meets-end e more none some = record { count = given.count; after = given.after; so_far = given.so_far; is_end = whole reader.rest (open-end e) none (λ z. some (given.count ∙ z)) }
+    meets-end e more none some = record {
+      count = given.count;
+      after = given.after;
+      so_far = given.so_far;
+      is_end =
+          whole reader.rest (open-end e) none (λ z. some (given.count ∙ z));
+    }
 
     -- a fault was met
     pub meets-fault : reader.ended ≡ None → (fault : TraceFault) (new : Left) → new.scans ≡ reader.scans

@@ -1,5 +1,6 @@
 -- The records of some bytes, one at a time.
-use Rattle.std.proofs.Common.{◌≡◌, ◌∙◌, ◌⊎◌, ◌+◌, ◌<◌, ℕ, zero, suc, List, [], ◌∷◌, ◌++◌, length, Option, Some, None, Bool, true, false, refl, sym, ap, inl, inr, arith, Bor, add-one}
+use Rattle.std.proofs.Common.{◌≡◌, ◌∙◌, ◌⊎◌, ◌+◌, ◌<◌, ℕ, zero, suc, List, [], ◌∷◌, ◌++◌, length, Option, Some, None, Bool, true, false}
+use Rattle.std.proofs.Common.{refl, sym, ap, inl, inr, arith, Bor, add-one}
 use Rattle.std.specs.Prelude.{MatchBool, cond}
 use Rattle.std.proofs.lemmas.Bool.{cases_Bool}
 use Rattle.csv.specs.Machine.{Read, ends_at_end, field_after, fields_after, is_end, next_record, step}
@@ -29,7 +30,8 @@ unfolding next_record
 takes cfg s fields field [] p e = at-end s fields field p (ends_at_end s) e
 takes cfg s fields field (c ∷ rest) p e = elim (cases_Bool (is_end (step cfg s c).1)) [
   | inl ends ↦ let same : rest ≡ p.2 = cc (rw ends at e) in inl (rw (← same) (omega arith))
-  | inr goes ↦ longer c rest p (takes cfg (step cfg s c).0 (fields_after (step cfg s c).1 fields field) (field_after (step cfg s c).1 c field) rest p (rw goes at e))
+  | inr goes ↦ longer c rest p (takes cfg (step cfg s c).0 (fields_after (step cfg s c).1 fields field)
+      (field_after (step cfg s c).1 c field) rest p (rw goes at e))
 ]
 
 pub nothing-left : (n : ℕ) → records_from default_config n st.StartRecord [] ≡ []
@@ -106,5 +108,6 @@ pub row-read : (a b : Reader (Bor (List ℕ))) (found : Bool) (f : List (List �
 row-read a b found f (inl failed) stops reads = rw (stops failed, failed) refl
 row-read a b found f (inr plain) stops reads =
     let r = reads plain in
-    let read = reads-next a.state (source_of bytes-in a) (pending_of (bytes-in b.rdr) b) found f b.state (λ e. stops (known-source a e)) (rw plain.0 at r.0) in
+    let read = reads-next a.state (source_of bytes-in a) (pending_of (bytes-in b.rdr) b) found f b.state (λ e. stops (known-source a e))
+    (rw plain.0 at r.0) in
     rw r.1 read

@@ -1,5 +1,7 @@
 -- A history that is written reads back.
-use Rattle.std.proofs.Common.{◌≡◌, ◌∙◌, sym, ap, subst, refl, ℕ, zero, suc, ◌+◌, ◌-◌, ◌<◌, ◌≤◌, ℤ, pos, negsuc, Bool, true, false, ◌==◌, ◌&&◌, cond, List, [], ◌∷◌, ◌++◌, length, map, take, slice_get, slice_index_or, Option, Some, None, arith, inl, inr, unsigned_abs, flat_map, add-one}
+use Rattle.std.proofs.Common.{◌≡◌, ◌∙◌, sym, ap, subst, refl, ℕ, zero, suc, ◌+◌, ◌-◌, ◌<◌, ◌≤◌, ℤ, pos, negsuc, Bool, true, false, ◌==◌}
+use Rattle.std.proofs.Common.{◌&&◌, cond, List, [], ◌∷◌, ◌++◌, length, map, slice_get, slice_index_or, Option, Some, None, arith, inl, inr}
+use Rattle.std.proofs.Common.{unsigned_abs, flat_map}
 use Rattle.std.proofs.lemmas.Int.{ints}
 use Rattle.std.proofs.Math.Logic.{∥∥₁_elim}
 use Rattle.std.proofs.Props.{props}
@@ -28,13 +30,15 @@ use Rattle.ft_trace.specs.meaning.Field.{field_value}
 use Rattle.ft_trace.specs.rows.Row.{is_monitored}
 use Rattle.ft_trace.specs.meaning.Source.{records_at}
 use Rattle.ft_trace.specs.meaning.Spelling.{IsHeader, Row, SpellAll, SpellsAt, SpellsHistory, records_of}
-use Rattle.ft_trace.specs.rows.Writer.{HasValue, IsMember, field_if}
+use Rattle.ft_trace.specs.rows.Writer.{HasValue, IsMember}
 use Rattle.ft_trace.specs.meaning.Writing.{field_of, fields_by, line_of, member_name, name_of, scan_field, trace_text}
 use Rattle.ft_trace.proofs.HeaderLemmas.{all-at}
-use Rattle.ft_trace.proofs.LineLemmas.{ArePlain, IsPlain, and-first, and-second, line-of-fields, name-plain, named-line, number-plain, plain-by}
+use Rattle.ft_trace.proofs.LineLemmas.{ArePlain, IsPlain, and-first, and-second, line-of-fields, name-plain, named-line, number-plain}
+use Rattle.ft_trace.proofs.LineLemmas.{plain-by}
 use Rattle.ft_trace.proofs.NumberLemmas.{number-is}
 use Rattle.ft_trace.proofs.Written.{records-written}
-use Rattle.ft_trace.proofs.PlaceLemmas.{filtered, own-place, place-within}
+use Rattle.ft_core.specs.laws.VarPlaces.{own-place}
+use Rattle.ft_trace.proofs.PlaceLemmas.{filtered, place-within}
 
 there-by : (field : Var → List ℕ) (kinds : Kinds) → ((x : ℕ) (v : Var) → kinds x v ≡ is_monitored v)
     → (vars : List Var) (x : ℕ) (v : Var) → slice_get vars x ≡ Some v
@@ -43,12 +47,15 @@ there-by field kinds same [] x v e is = absurd (none-some v e)
 there-by field kinds same (u ∷ vars) zero v e is =
     let one : u ≡ v = same_Some u v e in
     let on : is_monitored u ≡ true = ap is_monitored one ∙ is in
-    ap (λ b. slice_get (map field (cond b (u ∷ filter is_monitored vars) (filter is_monitored vars))) 0) on ∙ ap (λ (w : Var). Some (field w)) one
+    ap (λ b. slice_get (map field (cond b (u ∷ filter is_monitored vars) (filter is_monitored vars))) 0) on
+    ∙ ap (λ (w : Var). Some (field w)) one
 there-by field kinds same (u ∷ vars) (suc x) v e is =
     let rest = there-by field (after_first kinds) (λ y. same (suc y)) vars x v e is in
     let n = place_of (after_first kinds) vars x in
-    ap (λ b. slice_get (map field (cond (is_monitored u) (u ∷ filter is_monitored vars) (filter is_monitored vars))) (cond b (suc n) n)) (same zero u)
-    ∙ elim (is_monitored u) as (λ b. slice_get (map field (cond b (u ∷ filter is_monitored vars) (filter is_monitored vars))) (cond b (suc n) n) ≡ Some (field v)) [
+    ap (λ b. slice_get (map field (cond (is_monitored u) (u ∷ filter is_monitored vars) (filter is_monitored vars))) (cond b (suc n) n))
+    (same zero u)
+    ∙ elim (is_monitored u) as (λ b. slice_get (map field (cond b (u ∷ filter is_monitored vars) (filter is_monitored vars)))
+    (cond b (suc n) n) ≡ Some (field v)) [
       | true ↦ rest
       | false ↦ rest
     ]
@@ -84,36 +91,17 @@ position-is members k within distinct =
     let first : position_or_len (λ m. bytes_eq m name) members ≡ k =
     position_or_len_is (λ m. bytes_eq m name) members k [] (omega (arith, within))
     (λ j less. false_from_ne_true _ (λ same. let l : j < length members = omega (arith, less, within) in
-    let one : j ≡ k = distinct j k name (slice_get-get_or members j [] l ∙ ap (λ (n : List ℕ). Some n) ((bytes_decides (slice_index_or members j []) name).0 same)) (slice_get-get_or members k [] within) in
+    let one : j ≡ k = distinct j k name (slice_get-get_or members j [] l
+    ∙ ap (λ (n : List ℕ). Some n) ((bytes_decides (slice_index_or members j []) name).0 same)) (slice_get-get_or members k [] within) in
     omega (arith, less, one)))
     (λ l. (bytes_decides name name).1 refl) in
-    ap (λ n. cond (nat_lt n (length members)) (Some n) None) first ∙ cond-true (nat_lt k (length members)) _ _ (lt-ltb k (length members) within)
+    ap (λ n. cond (nat_lt n (length members)) (Some n) None) first ∙ cond-true (nat_lt k (length members)) _ _
+    (lt-ltb k (length members) within)
 
 -- what was checked of a set
 checked : (S : Tables) → AreChecked S.name S.splits S.depth S.vars S.memories S.tables S.first S.always S.step S.blocks
 unfolding IsChecked
 checked S = S.checked
-
--- one more variable
-more-field : (field : Var → List ℕ) (vars : List Var) (i : ℕ) (v : Var) → slice_get vars i ≡ Some v
-    → fields_by field (take (suc i) vars) ≡ fields_by field (take i vars) ++ field_if field v
-more-field field [] i v e = absurd (none-some v e)
-more-field field (u ∷ us) zero v e = first (is_monitored u) ∙ ap (λ (w : Var). field_if field w) (same_Some u v e)
-  where
-    first : (b : Bool) → map field (cond b (u ∷ []) []) ≡ cond b (field u ∷ []) []
-    first true = refl
-    first false = refl
-more-field field (u ∷ us) (suc i) v e = later (is_monitored u) (more-field field us i v e)
-  where
-    later : (b : Bool) → fields_by field (take (suc i) us) ≡ fields_by field (take i us) ++ field_if field v
-        → map field (cond b (u ∷ filter is_monitored (take (suc i) us)) (filter is_monitored (take (suc i) us)))
-        ≡ map field (cond b (u ∷ filter is_monitored (take i us)) (filter is_monitored (take i us))) ++ field_if field v
-    later true h = ap (λ (t : List (List ℕ)). field u ∷ t) h
-    later false h = h
-
-pub one-field : (field : Var → List ℕ) (vars : List Var) (i : ℕ) (v : Var) → slice_get vars i ≡ Some v
-    → fields_by field (take (i + 1) vars) ≡ fields_by field (take i vars) ++ field_if field v
-one-field field vars i v e = ap (λ n. fields_by field (take n vars)) (add-one i) ∙ more-field field vars i v e
 
 -- a scan of a list is a list of its own
 pub one-scan : (S : Tables) (h : Scans) (t : ℕ) → t < length h → IsListOf S monitored h
@@ -137,10 +125,11 @@ module _ (S : Tables) (scan : List ℤ) (list : IsListOf S monitored (scan ∷ [
   value = slice_index_or scan v.place (pos 0)
 
   at-place : slice_index_or scan (place_of monitored S.vars x) (pos 0) ≡ value
-  at-place = ap (λ p. slice_index_or scan p (pos 0)) (sym (own-place S x v is))
+  at-place = ap (λ p. slice_index_or scan p (pos 0)) (sym (own-place S kind.Mon x v is))
 
   in-range : IsWithin v.range value
-  in-range = subst (λ (z : ℤ). IsWithin v.range z) (cond-true (is_of S.vars monitored x) _ _ is-of ∙ at-place) (list.ranges 0 x v (omega arith) is)
+  in-range = subst (λ (z : ℤ). IsWithin v.range z) (cond-true (is_of S.vars monitored x) _ _ is-of ∙ at-place)
+      (list.ranges 0 x v (omega arith) is)
 
   member : IsMember v value
   member some = by value refl in-range ((checked S).enums x v is.0 some)
@@ -164,7 +153,8 @@ module _ (S : Tables) (scan : List ℤ) (list : IsListOf S monitored (scan ∷ [
         ∙ number-is value (omega (arith, small))
     | inr enum ↦
         let m = member (nonzero (length v.members) enum) in
-        let field : field_of v value ≡ slice_index_or v.members m.0 [] = cond-false (length v.members == 0) _ _ enum ∙ ap (member_name v) m.1 in
+        let field : field_of v value ≡ slice_index_or v.members m.0 [] = cond-false (length v.members == 0) _ _ enum
+        ∙ ap (member_name v) m.1 in
         cond-false (length v.members == 0) _ _ enum
         ∙ ap (λ (f : List ℕ). option_map (λ k. pos k) (position (λ m. bytes_eq m f) v.members)) field
         ∙ ap (λ o. option_map (λ k. pos k) o) (position-is v.members m.0 m.2 ((checked S).names.members_differ x v is.0))
@@ -176,8 +166,10 @@ module _ (S : Tables) (scan : List ℤ) (list : IsListOf S monitored (scan ∷ [
     | inl number ↦ subst IsPlain (sym (cond-true (length v.members == 0) _ _ number)) (number-plain value (omega (arith, small)))
     | inr enum ↦
         let m = member (nonzero (length v.members) enum) in
-        let field : field_of v value ≡ slice_index_or v.members m.0 [] = cond-false (length v.members == 0) _ _ enum ∙ ap (member_name v) m.1 in
-        subst IsPlain (sym field) (name-plain (slice_index_or v.members m.0 []) (all-at is_set_name v.members m.0 _ ((checked S).names.members x v is.0) (slice_get-get_or v.members m.0 [] m.2)))
+        let field : field_of v value ≡ slice_index_or v.members m.0 [] = cond-false (length v.members == 0) _ _ enum
+        ∙ ap (member_name v) m.1 in
+        subst IsPlain (sym field) (name-plain (slice_index_or v.members m.0 [])
+        (all-at is_set_name v.members m.0 _ ((checked S).names.members x v is.0) (slice_get-get_or v.members m.0 [] m.2)))
   ]
 
   pub spells-at : SpellsAt S (fields_by (scan_field scan) S.vars) scan x v
@@ -185,7 +177,7 @@ module _ (S : Tables) (scan : List ℤ) (list : IsListOf S monitored (scan ∷ [
     field = field_of v value;
     value = value;
     in_row = field-there (scan_field scan) S.vars x v is.0 is.1;
-    in_values = ap (λ p. slice_get scan p) (sym (own-place S x v is)) ∙ slice_get-get_or scan v.place (pos 0) has-value.0;
+    in_values = ap (λ p. slice_get scan p) (sym (own-place S kind.Mon x v is)) ∙ slice_get-get_or scan v.place (pos 0) has-value.0;
     spells = (reads-back, in-range);
   }
 
@@ -208,7 +200,8 @@ some-field S field none = ∥∥₁_elim (checked S).has_monitored (hlevel props
   where
     by : (x : ℕ) (o : Option Var) → slice_get S.vars x ≡ o → IsTrue (elim o [ None ↦ false | Some v ↦ monitored x v ]) → ⊥
     by x None e is = true≢false (sym is)
-    by x (Some v) e is = none-some (field v) (ap (λ (row : Row). slice_get row (place_of monitored S.vars x)) (sym none) ∙ field-there field S.vars x v e is)
+    by x (Some v) e is = none-some (field v) (ap (λ (row : Row). slice_get row (place_of monitored S.vars x)) (sym none)
+        ∙ field-there field S.vars x v e is)
 
 front-named : (xs ys : List (List ℕ)) → list_all is_set_name (xs ++ ys) ≡ true → list_all is_set_name xs ≡ true
 front-named [] ys e = refl
@@ -219,7 +212,8 @@ front-named (x ∷ xs) ys e =
 named-in : (vars : List Var) (x : ℕ) (v : Var) → list_all is_set_name (map (λ v. v.name) vars) ≡ true → slice_get vars x ≡ Some v
     → is_set_name v.name ≡ true
 named-in [] x v all e = absurd (none-some v e)
-named-in (u ∷ us) zero v all e = ap (λ (w : Var). is_set_name w.name) (sym (same_Some u v e)) ∙ and-first (is_set_name u.name) (list_all is_set_name (map (λ v. v.name) us)) all
+named-in (u ∷ us) zero v all e = ap (λ (w : Var). is_set_name w.name) (sym (same_Some u v e))
+    ∙ and-first (is_set_name u.name) (list_all is_set_name (map (λ v. v.name) us)) all
 named-in (u ∷ us) (suc x) v all e = named-in us x v (and-second (is_set_name u.name) (list_all is_set_name (map (λ v. v.name) us)) all) e
 
 -- a variable's name is a name
@@ -229,7 +223,8 @@ named S x v e =
     let memories = map memory_name S.memories in
     let blocks = map (λ b. b.name) S.blocks in
     let facts = flat_map (λ b. flat_map fact_names b.facts) S.blocks in
-    named-in S.vars x v (front-named vars memories (front-named (vars ++ memories) blocks (front-named ((vars ++ memories) ++ blocks) facts (checked S).names.declared))) e
+    named-in S.vars x v (front-named vars memories (front-named (vars ++ memories) blocks
+    (front-named ((vars ++ memories) ++ blocks) facts (checked S).names.declared))) e
 
 named-fields : (vars : List Var) → ((x : ℕ) (v : Var) → slice_get vars x ≡ Some v → is_set_name v.name ≡ true)
     → list_all is_set_name (fields_by name_of vars) ≡ true
@@ -257,7 +252,8 @@ scan-lines S (scan ∷ h) each =
 
 -- what the writer of csv wrote is the text of the history
 pub written-text : (S : Tables) (h : Scans) → IsListOf S monitored h
-    → row_text default_writer (fields_by name_of S.vars) ++ flat_map (λ scan. row_text default_writer (fields_by (scan_field scan) S.vars)) h ≡ trace_text S h
+    → row_text default_writer (fields_by name_of S.vars) ++ flat_map (λ scan. row_text default_writer (fields_by (scan_field scan) S.vars))
+    h ≡ trace_text S h
 written-text S h list =
     ap (λ (t : List ℕ). t ++ flat_map (λ scan. row_text default_writer (scan-fields S scan)) h)
     (line-of-fields (fields_by name_of S.vars) (header-plain S) (some-field S name_of))
@@ -287,7 +283,8 @@ no-mark b (c ∷ d ∷ rest) e = ap (λ x. cond (x && (c == 0xBB) && (d == 0xBF)
 unmarked : (S : Tables) (h : Scans) → strip_bom (trace_text S h) ≡ trace_text S h
 unmarked S h =
     let line = named-line (fields_by name_of S.vars) (some-field S name_of) (named-fields S.vars (named S)) in
-    let text : trace_text S h ≡ line.0 ∷ (line.1 ++ flat_map (λ scan. line_of (scan-fields S scan)) h) = ap (λ (t : List ℕ). t ++ flat_map (λ scan. line_of (scan-fields S scan)) h) line.2 in
+    let text : trace_text S h ≡ line.0 ∷ (line.1 ++ flat_map (λ scan. line_of (scan-fields S scan)) h) =
+    ap (λ (t : List ℕ). t ++ flat_map (λ scan. line_of (scan-fields S scan)) h) line.2 in
     ap strip_bom text ∙ no-mark line.0 _ line.3 ∙ sym text
 
 spell-all : (S : Tables) (h : Scans) → EachScan S h → SpellAll S (map (scan-fields S) h) h
@@ -295,7 +292,12 @@ unfolding SpellAll
 spell-all S [] each = tt
 spell-all S (scan ∷ h) each =
     let list = at-first S scan h each in (
-      record { width = fields-count (scan_field scan) S.vars; count = list.widths 0 (omega arith); each = λ x v is. spells-at S scan list x v is },
+      record {
+        width = fields-count (scan_field scan) S.vars;
+        count = list.widths 0 (omega arith);
+        each =
+            λ x v is. spells-at S scan list x v is;
+      },
       spell-all S h (later S scan h each),
     )
 

@@ -10,5 +10,6 @@ pub records-written : (rows : List (List (List ℕ))) → records_at st.StartRec
 unfolding rows_text
 records-written [] = nothing-left 1
 records-written (row ∷ rows) =
-    first-record st.StartRecord (row_text default_writer row ++ rows_text rows) (read_back row, st.StartRecord, rows_text rows) (read-write row (rows_text rows))
+    first-record st.StartRecord (row_text default_writer row ++ rows_text rows) (read_back row, st.StartRecord, rows_text rows)
+    (read-write row (rows_text rows))
     ∙ ap (λ (t : List (List (List ℕ))). read_back row ∷ t) (records-written rows)

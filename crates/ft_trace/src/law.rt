@@ -17,5 +17,6 @@ pub fn one_history()
 
 /// Bytes that spell a history have no fault.
 pub fn history_or_fault()
-    ensures { (S : Tables) (bytes : List ℕ) (h : Scans) (f : TraceFault) → SpellsHistory S bytes h → IsFirstFault S bytes f → f ≡ faults.NoMemory }
+    ensures { (S : Tables) (bytes : List ℕ) (h : Scans) (f : TraceFault) → SpellsHistory S bytes h → IsFirstFault S bytes f → f
+        ≡ faults.NoMemory }
 {}

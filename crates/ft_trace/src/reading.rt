@@ -32,7 +32,8 @@ pub enum End {
 fn take_record(reader: &mut Reader<&[u8]>, row: &mut ByteRecord) -> Result<bool, TraceFault>
     requires { Follows reader.old }
     ensures follows { Follows reader.new }
-    ensures rows { IfOk result (λ found. MatchBool found (rows_left reader.old ≡ fields_of row.new ∷ rows_left reader.new) (rows_left reader.old ≡ [])) }
+    ensures rows { IfOk result (λ found. MatchBool found (rows_left reader.old ≡ fields_of row.new ∷ rows_left reader.new)
+        (rows_left reader.old ≡ [])) }
     ensures memory { IfErr result (λ f. f ≡ faults.NoMemory) }
 {
     match take_row(reader, row) {
@@ -54,7 +55,8 @@ fn read_scan(
     requires room { length values.old ≡ count_of monitored tables.now.vars }
     ensures follows { Follows reader.new }
     ensures room { length values.new ≡ length values.old }
-    ensures ok { IfOk result (λ found. MatchBool found (NextScan tables.now scan (rows_left reader.old) values.new (rows_left reader.new)) ((rows_left reader.old ≡ []) × (scan ≢ 0))) }
+    ensures ok { IfOk result (λ found. MatchBool found (NextScan tables.now scan (rows_left reader.old) values.new (rows_left reader.new))
+        ((rows_left reader.old ≡ []) × (scan ≢ 0))) }
     ensures fault { IfErr result (FaultNext tables.now scan (rows_left reader.old)) }
 {
     match take_record(reader, row) {
@@ -126,8 +128,11 @@ impl<'b> TraceReader<'b> {
         requires given { (bytes : List ℕ) × (h : Scans) × HasGiven tables.now bytes self.old h }
         requires room { length values.old ≡ count_of monitored tables.now.vars }
         ensures room { length values.new ≡ length values.old }
-        ensures ok { (bytes : List ℕ) (h : Scans) → HasGiven tables.now bytes self.old h → IfOk result (λ found. MatchBool found (HasGiven tables.now bytes self.new (h ++ values.new ∷ [])) (SpellsHistory tables.now bytes h × HasGiven tables.now bytes self.new h)) }
-        ensures fault { (bytes : List ℕ) (h : Scans) → HasGiven tables.now bytes self.old h → IfErr result (λ f. IsFirstFault tables.now bytes f × HasGiven tables.now bytes self.new h) }
+        ensures ok { (bytes : List ℕ) (h : Scans) → HasGiven tables.now bytes self.old h
+            → IfOk result (λ found. MatchBool found (HasGiven tables.now bytes self.new (h ++ values.new ∷ []))
+            (SpellsHistory tables.now bytes h × HasGiven tables.now bytes self.new h)) }
+        ensures fault { (bytes : List ℕ) (h : Scans) → HasGiven tables.now bytes self.old h
+            → IfErr result (λ f. IsFirstFault tables.now bytes f × HasGiven tables.now bytes self.new h) }
         ensures ended { IfOk result (λ found. found ≡ false → self.new.ended ≡ Some end.Whole) }
         ensures refused { IfErr result (λ f. self.new.ended ≡ Some (end.Refused f)) }
         ensures again { IfSome self.old.ended (λ e. (result ≡ answer_of e) × (self.new ≡ self.old)) }
@@ -163,7 +168,8 @@ fn read_all(
 ) -> Result<(), TraceFault>
     requires given { (bytes : List ℕ) × HasGiven tables.now bytes reader.old history.old }
     requires room { length values.old ≡ count_of monitored tables.now.vars }
-    ensures ok { (bytes : List ℕ) → HasGiven tables.now bytes reader.old history.old → OnOk result (SpellsHistory tables.now bytes history.new) }
+    ensures ok { (bytes : List ℕ) → HasGiven tables.now bytes reader.old history.old
+        → OnOk result (SpellsHistory tables.now bytes history.new) }
     ensures fault { (bytes : List ℕ) → HasGiven tables.now bytes reader.old history.old → IfErr result (IsFirstFault tables.now bytes) }
 {
     'scans: loop {

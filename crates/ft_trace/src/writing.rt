@@ -134,7 +134,8 @@ fn write_scan(
     requires scan { IsListOf tables.now monitored (scan.now ∷ []) }
     requires whole { IsWhole writer.old }
     ensures whole { OnOk result (IsWhole writer.new) }
-    ensures text { OnOk result (written writer.new ≡ written writer.old ++ row_text default_writer (fields_by (scan_field scan.now) tables.now.vars)) }
+    ensures text { OnOk result (written writer.new ≡ written writer.old
+        ++ row_text default_writer (fields_by (scan_field scan.now) tables.now.vars)) }
 {
     let mut row = ByteRecord::new(alloc);
     add_scan(alloc, tables, scan, &mut row)?;
@@ -151,7 +152,8 @@ fn write_scans(
     requires scans { IsListOf tables.now monitored history.now }
     requires whole { IsWhole writer.old }
     ensures whole { OnOk result (IsWhole writer.new) }
-    ensures text { OnOk result (written writer.new ≡ written writer.old ++ flat_map (λ scan. row_text default_writer (fields_by (scan_field scan) tables.now.vars)) history.now) }
+    ensures text { OnOk result (written writer.new ≡ written writer.old
+        ++ flat_map (λ scan. row_text default_writer (fields_by (scan_field scan) tables.now.vars)) history.now) }
 {
     'scans: for scan in 0..history.scans() {
         write_scan(alloc, tables, history.row(scan), writer)?;

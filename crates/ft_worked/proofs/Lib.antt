@@ -6,8 +6,6 @@ pub mod MixerRows
 pub mod MixerSound
 pub mod Passes
 pub mod ProperTests
-pub mod ReadingRules
 pub mod RelayLemmas
 pub mod SoundTests
-pub mod TraceTests
 pub mod TripLemmas

@@ -10,7 +10,7 @@ use Rattle.ft_mean.specs.meaning.Fits.{Maps}
 use Rattle.ft_mean.specs.meaning.Memory.{look}
 use Rattle.ft_mean.specs.judge.Scope.{through, at_all, is_list}
 use Rattle.ft_mean.specs.meaning.Reading.{Scans, reading_of}
-use Rattle.ft_worked.proofs.TraceTests.{list_is, through_at, asked_of}
+use Rattle.ft_mean.specs.laws.ScanTests.{list_is, through_at, asked_of}
 
 module _ (S : Tables) (section : Section) (kinds : Kinds) (list image : Scans)
     (all_defined : (x : ℕ) (v : Var) → image_kinds section x v ≡ true → defined_kinds section x v ≡ true) where

@@ -12,7 +12,7 @@ use Rattle.ft_mean.specs.judge.Scope.{at_all}
 use Rattle.ft_mean.specs.meaning.Reading.{Reading, reading_of}
 use Rattle.ft_mean.specs.meaning.Fits.{Fits, InputMap, OutputMap, side_reading}
 use Rattle.ft_mean.specs.laws.Equations.{evaluation}
-use Rattle.ft_worked.proofs.TraceTests.{fits, list_is}
+use Rattle.ft_mean.specs.laws.ScanTests.{fits, list_is}
 use Rattle.ft_worked.specs.Mixer.{mixer, levels, required, probed, designed, put_out}
 use Rattle.ft_worked.specs.Worked.{MixerRuns, MixerIsWorked}
 use Rattle.ft_worked.proofs.MadeLemmas.{Rest, set_of, for_each}

@@ -13,7 +13,8 @@ use Rattle.ft_core.specs.declared.tables.Memory.{Memory}
 use Rattle.ft_mean.specs.meaning.Proper.{AllProper, IsProper, IsLinked}
 use Rattle.ft_mean.specs.meaning.Value.{View}
 use Rattle.ft_mean.specs.laws.Equations.{evaluation}
-use Rattle.ft_worked.proofs.Passes.{passes, within, is_within}
+use Rattle.ft_core.specs.laws.Ranges.{is_within, within}
+use Rattle.ft_worked.proofs.Passes.{passes}
 use Rattle.ft_worked.specs.Mixer.{mixer, vars, memories, probe, valve_and_pump, trend, drive, gate, by_design, overlapping}
 use Rattle.ft_worked.specs.Worked.{MixerIsProper}
 use Rattle.ft_worked.proofs.MadeLemmas.{Rest, set_of, for_each}

@@ -10,8 +10,8 @@ use Rattle.ft_mean.specs.meaning.Reading.{IsListOf}
 use Rattle.ft_worked.specs.Made.{IsMadeOf}
 use Rattle.ft_worked.specs.Mixer.{mixer}
 use Rattle.ft_worked.proofs.MadeLemmas.{set_of, for_each}
-use Rattle.ft_worked.proofs.Passes.{is_within}
-use Rattle.ft_worked.proofs.TraceTests.{list_is}
+use Rattle.ft_core.specs.laws.Ranges.{is_within}
+use Rattle.ft_mean.specs.laws.ScanTests.{list_is}
 
 abbrev pub UpTo : ℕ → ℤ → Type 0
 UpTo top z = (pos 0 ≤ℤ z) × (z ≤ℤ pos top)

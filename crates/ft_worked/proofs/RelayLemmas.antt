@@ -31,7 +31,7 @@ use Rattle.ft_core.specs.declared.term.Term.TheVariants.{Num}
 use Rattle.ft_core.specs.meaning.Grids.{Cell}
 use Rattle.ft_worked.specs.Relay.{relay, vars, tables, is_on, on_thrice}
 use Rattle.ft_worked.specs.Worked.{RelayRefines, LateRelayDiffers}
-use Rattle.ft_worked.proofs.TraceTests.{list_is}
+use Rattle.ft_mean.specs.laws.ScanTests.{list_is}
 use Rattle.ft_worked.proofs.MadeLemmas.{Rest, set_of, for_each}
 use Rattle.ft_worked.proofs.ProperTests.{one_of, InRanges, AllOneCell, proper_by_cells}
 

@@ -20,7 +20,9 @@ use Rattle.ft_core.specs.meaning.Grids.{cells_for, defines, is_section, is_for, 
 use Rattle.ft_core.specs.meaning.Reads.{Read, at_now, at_before, of_memory, of_age, cond_reads, memory_reads, grid_reads, cell_reads}
 use Rattle.ft_core.specs.checked.Size.{is_sized, is_sized_memory, is_sized_grid}
 use Rattle.ft_core.specs.checked.Sound.{IsSound, AllRead, now_of, step_of, side_of, may_read, on_side, is_current, item_reads}
-use Rattle.ft_worked.proofs.Passes.{each, passes, all_pass, from_one, asked, is_within, within}
+use Rattle.ft_core.specs.laws.Lists.{all_pass, from_one}
+use Rattle.ft_core.specs.laws.Ranges.{is_within, within}
+use Rattle.ft_worked.proofs.Passes.{each, passes, asked}
 use Rattle.ft_worked.proofs.ProperTests.{targets_of}
 
 pub declared : (kinds : Kinds) (test : ℕ → Bool) (vs : List Var) → each (λ x v. test x || not (kinds x v)) vs ≡ true → (x : ℕ)

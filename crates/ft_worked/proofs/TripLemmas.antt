@@ -8,7 +8,7 @@ use Rattle.ft_mean.specs.laws.Equations.{evaluation}
 use Rattle.ft_worked.specs.Trip.{trip, pressures, opened, opened_early, readings, counted, counted_again}
 use Rattle.ft_worked.specs.Worked.{TripRuns, TripIsWorked}
 use Rattle.ft_worked.proofs.MadeLemmas.{Rest, set_of, for_each}
-use Rattle.ft_worked.proofs.TraceTests.{fits}
+use Rattle.ft_mean.specs.laws.ScanTests.{fits}
 
 module _ (rest : Rest trip) where
   abbrev S : Tables

@@ -6,7 +6,8 @@ ghost use Rattle.ft_core.specs.declared.term.Cond.TheVariants.{Compare, No};
 ghost use Rattle.ft_core.specs.declared.term.Rel.TheVariants.{Eq, Ge, Gt, Le, Lt};
 ghost use Rattle.ft_core.specs.declared.term.Term.TheVariants.{Add, Div, Now, Num, Prev, Times};
 ghost use Rattle.ft_worked.specs.Made.{IsMadeOf};
-ghost use Rattle.ft_worked.specs.Mixer.{against, blocks, by_design, drive, full, gate, high, memories, mixer, probe, settled, trend, valve_and_pump, vars};
+ghost use Rattle.ft_worked.specs.Mixer.{against, blocks, by_design, drive, full, gate, high, memories, mixer, probe, settled, trend};
+ghost use Rattle.ft_worked.specs.Mixer.{valve_and_pump, vars};
 
 use super::making::{compared, declare, letter, memory_or_not, only, pair, triple};
 use ft_base::{Boxed, List, NoMemory};
@@ -245,7 +246,13 @@ fn block(
     output: u32,
     memory: u32,
 ) -> Result<Block, NoMemory>
-    ensures { IfOk result (λ b. b ≡ record { name = byte ∷ []; takes = take.Variable controlled ∷ take.Variable output ∷ take.Memory memory ∷ []; uses = []; facts = Goal controlled ∷ [] }) }
+    ensures { IfOk result (λ b. b ≡ record {
+      name = byte ∷ [];
+      takes = take.Variable controlled ∷ take.Variable output ∷ take.Memory memory
+          ∷ [];
+      uses = [];
+      facts = Goal controlled ∷ [];
+    }) }
 {
     let takes = triple(
         alloc,

@@ -1,5 +1,6 @@
 -- What a scan under way tells, what each step needs of it, and what it leaves.
-use Rattle.std.specs.Prelude.{ℕ, ◌≡◌, ◌<◌, ℤ, pos, negsuc, Bool, false, List, [], ◌∷◌, ◌++◌, length, slice_get, slice_index_or, slice_set, Some, IsTrue}
+use Rattle.std.specs.Prelude.{ℕ, ◌≡◌, ◌<◌, ℤ, pos, negsuc, Bool, false, List, [], ◌∷◌, ◌++◌, length, slice_get, slice_index_or, slice_set}
+use Rattle.std.specs.Prelude.{Some, IsTrue}
 use Rattle.ft_base.specs.Interval.{IsWithin}
 use Rattle.ft_core.specs.declared.tables.Tables.{Tables}
 use Rattle.ft_core.specs.declared.tables.Var.{Var}
@@ -58,13 +59,27 @@ pub record FindsColumn (S : Tables) (s : Side) (table : ℕ) (old new : Frame) :
   pub condition : Cond
   pub at : slice_get columns column ≡ Some condition
   pub holds : IsTrue (truth (view_of old) condition)
-  pub leaves : new ≡ record { now = old.now; past = old.past; truths = old.truths; columns = slice_set old.columns table column; runs = old.runs }
+  pub leaves : new ≡ record {
+    now = old.now;
+    past = old.past;
+    truths = old.truths;
+    columns = slice_set old.columns table column;
+    runs =
+        old.runs;
+  }
 
 -- a step that finds a variable's value: that of some cell that holds
 pub record FindsCell (S : Tables) (s : Side) (variable : ℕ) (old new : Frame) : Type 0 where
   pub z : ℤ
   pub is : IsTrue (defined S (section_of s) (view_of old) variable z)
-  pub leaves : new ≡ record { now = slice_set old.now variable z; past = old.past; truths = old.truths; columns = old.columns; runs = old.runs }
+  pub leaves : new ≡ record {
+    now = slice_set old.now variable z;
+    past = old.past;
+    truths = old.truths;
+    columns = old.columns;
+    runs =
+        old.runs;
+  }
 
 -- or that of its row of a vector table in the column that was found
 pub record FindsEntry (S : Tables) (s : Side) (variable table row : ℕ) (old new : Frame) : Type 0 where
@@ -74,14 +89,22 @@ pub record FindsEntry (S : Tables) (s : Side) (variable table row : ℕ) (old ne
   pub there : IsVector S s table columns targets terms
   pub term : Term
   pub at : slice_get (slice_index_or terms row []) (slice_index_or old.columns table 0) ≡ Some term
-  pub leaves : new ≡ record { now = slice_set old.now variable (value (view_of old) term); past = old.past; truths = old.truths; columns = old.columns; runs = old.runs }
+  pub leaves : new ≡ record {
+    now = slice_set old.now variable (value (view_of old) term);
+    past = old.past;
+    truths = old.truths;
+    columns =
+        old.columns;
+    runs = old.runs;
+  }
 
 -- a running memory goes on by one scan, at which it says this
 abbrev pub Advances : View → Memory → Running → Running → Bool → Type 0
 Advances V (Held name s c hold) (Timer t) (Timer u) says =
     (u.hold ≡ t.hold) × (u.period ≡ t.period) × (u.truths ≡ t.truths ++ truth V c ∷ []) × (says ≡ held_after u.hold u.period u.truths)
 Advances V (Hyst name s e lo hi start) (Band b) (Band u) says =
-    (u.lo ≡ b.lo) × (u.hi ≡ b.hi) × (u.start ≡ b.start) × (u.numbers ≡ b.numbers ++ value V e ∷ []) × (says ≡ hyst_after u.lo u.hi u.start u.numbers)
+    (u.lo ≡ b.lo) × (u.hi ≡ b.hi) × (u.start ≡ b.start) × (u.numbers ≡ b.numbers ++ value V e ∷ [])
+    × (says ≡ hyst_after u.lo u.hi u.start u.numbers)
 Advances V _ _ _ says = ⊥
 
 -- a step of a memory

@@ -32,5 +32,7 @@ HasTargets table targets = (columns : List Cond) × (terms : List (List Term)) �
 -- each variable of the section that passes the test was given its value in the row, and each other one has what it had
 pub record IsFilled (S : Tables) (section : Section) (V : View) (test : ℕ → Bool) (old new : List ℤ) : Type 0 where
   pub width : length new ≡ length old
-  pub filled : (x : ℕ) (v : Var) → IsVar S (defined_kinds section) x v → IsTrue (test x) → IsTrue (defined S section V x (row_value S section new x))
-  pub rest : (x : ℕ) (v : Var) → IsVar S (defined_kinds section) x v → IsFalse (test x) → row_value S section new x ≡ row_value S section old x
+  pub filled : (x : ℕ) (v : Var) → IsVar S (defined_kinds section) x v → IsTrue (test x)
+      → IsTrue (defined S section V x (row_value S section new x))
+  pub rest : (x : ℕ) (v : Var) → IsVar S (defined_kinds section) x v → IsFalse (test x) → row_value S section new x
+      ≡ row_value S section old x

@@ -37,7 +37,8 @@ AreKnown S s steps n reads = (r : Read) → Contains reads r → IsKnown S s ste
 
 -- the table at this place is a vector table of the side
 abbrev pub IsVector : Tables → Side → ℕ → List Cond → List ℕ → List (List Term) → Type 0
-IsVector S s at columns targets terms = slice_get S.tables at ≡ Some (record { section = section_of s; grid = Vector columns targets terms })
+IsVector S s at columns targets terms = slice_get S.tables at ≡ Some (record
+    { section = section_of s; grid = Vector columns targets terms })
 
 -- the column of a vector table may be looked for after n steps; the table defines a variable of the side
 pub record CanFindColumn (S : Tables) (s : Side) (steps : List Step) (n table : ℕ) : Type 0 where

@@ -17,4 +17,5 @@ pub record ArePut (places : List ℕ) (values : List ℤ) (n : ℕ) (old new : L
 
 -- the first n values are those at their places of a row
 abbrev pub AreTold : List ℕ → List ℤ → ℕ → List ℤ → Type 0
-AreTold places row n values = (k p : ℕ) → k < n → slice_get places k ≡ Some p → slice_index_or values k (pos 0) ≡ slice_index_or row p (pos 0)
+AreTold places row n values = (k p : ℕ) → k < n → slice_get places k ≡ Some p → slice_index_or values k (pos 0)
+    ≡ slice_index_or row p (pos 0)

@@ -27,4 +27,5 @@ row_value S section row x = slice_index_or row (place_of (defined_kinds section)
 
 -- the row has the value of each variable that the section defines
 abbrev pub AreValues : Tables → Section → View → List ℤ → Type 0
-AreValues S section V row = (x : ℕ) (v : Var) → IsVar S (defined_kinds section) x v → IsTrue (defined S section V x (row_value S section row x))
+AreValues S section V row = (x : ℕ) (v : Var) → IsVar S (defined_kinds section) x v
+    → IsTrue (defined S section V x (row_value S section row x))

@@ -50,7 +50,13 @@ rows_at places scans = map (λ scan. map (λ p. slice_index_or scan p (pos 0)) p
 
 -- it shows the values of the scans so far: those that were given, and those of its side
 abbrev pub scanning : Inside → Scanning
-scanning s = record { set = s.tables.now; side = s.side; given = rows_at s.given s.past.items; rows = rows_at s.side_variables s.past.items }
+scanning s = record {
+  set = s.tables.now;
+  side = s.side;
+  given = rows_at s.given s.past.items;
+  rows =
+      rows_at s.side_variables s.past.items;
+}
 
 -- it stands for what it shows
 abbrev pub IsRunning : Inside → Type 0

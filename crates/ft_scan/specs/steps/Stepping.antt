@@ -26,5 +26,6 @@ abbrev pub Hears : Running → Sample → Running → (says : Bool) → Type 0
 Hears (Timer t) (Truth b) (Timer u) says =
     (u.hold ≡ t.hold) × (u.period ≡ t.period) × (u.truths ≡ t.truths ++ b ∷ []) × (says ≡ held_after u.hold u.period u.truths)
 Hears (Band t) (Number z) (Band u) says =
-    (u.lo ≡ t.lo) × (u.hi ≡ t.hi) × (u.start ≡ t.start) × (u.numbers ≡ t.numbers ++ z ∷ []) × (says ≡ hyst_after u.lo u.hi u.start u.numbers)
+    (u.lo ≡ t.lo) × (u.hi ≡ t.hi) × (u.start ≡ t.start) × (u.numbers ≡ t.numbers ++ z ∷ [])
+    × (says ≡ hyst_after u.lo u.hi u.start u.numbers)
 Hears _ _ _ says = ⊥

@@ -8,7 +8,8 @@ use Rattle.ft_trace.specs.meaning.Decimal.{number_of}
 
 -- a number in decimal, or the place of a member's name
 abbrev pub field_value : Var → List ℕ → Option ℤ
-field_value v field = if length v.members == 0 then number_of field else option_map (λ k. pos k) (position (λ m. bytes_eq m field) v.members)
+field_value v field = if length v.members == 0 then number_of field else option_map (λ k. pos k)
+    (position (λ m. bytes_eq m field) v.members)
 
 -- the field spells this value of the variable
 abbrev pub Spells : Var → List ℕ → ℤ → Type 0

@@ -1,5 +1,6 @@
 -- How one field of a scan's record is read into a row of values.
-use Rattle.std.specs.Prelude.{ℕ, ◌+◌, ◌≡◌, ◌<◌, ℤ, List, length, slice_get, slice_set, Option, Some, None, MatchBool, IsTrue, Bool, false, not, ◌||◌}
+use Rattle.std.specs.Prelude.{ℕ, ◌+◌, ◌≡◌, ◌<◌, ℤ, List, length, slice_get, slice_set, Option, Some, None, MatchBool, IsTrue, Bool, false}
+use Rattle.std.specs.Prelude.{not, ◌||◌}
 use Rattle.std.specs.Str.{bytes_eq}
 use Rattle.csv.specs.Records.{field_at}
 use Rattle.ft_core.specs.declared.tables.Var.{Var}

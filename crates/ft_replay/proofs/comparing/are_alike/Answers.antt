@@ -1,6 +1,6 @@
 use Rattle.std.proofs.Common.{ap, length, arith}
 use Rattle.ft_core.specs.declared.tables.Side.TheVariants as side
-use Rattle.ft_replay.proofs.CountLemmas.{item-there}
+use Rattle.ft_core.specs.laws.Places.{item-there}
 use Rattle.ft_replay.proofs.RowLemmas.{alike-more, all-alike, controlled-places, differ-here, place-more}
 use Rattle.ft_replay.proofs.comparing.are_alike.Goals as goal
 

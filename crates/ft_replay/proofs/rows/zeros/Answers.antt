@@ -1,7 +1,9 @@
 use Rattle.std.proofs.Common.{◌∙◌, sym, ap, length, pos, arith}
 use Rattle.std.proofs.lemmas.List.{length_push}
 use Rattle.ft_replay.specs.scans.Rows.{class_of}
-use Rattle.ft_replay.proofs.CountLemmas.{all-counted, counted, item-there, passed}
+use Rattle.ft_core.specs.laws.Places.{item-there}
+use Rattle.ft_core.specs.laws.VarPlaces.{counted, passed}
+use Rattle.ft_replay.proofs.CountLemmas.{all-counted}
 use Rattle.ft_replay.proofs.rows.zeros.Goals as goal
 use Rattle.ft_replay.proofs.rows.zeros.Goals.{then-has+in_ok-push, else-has}
 

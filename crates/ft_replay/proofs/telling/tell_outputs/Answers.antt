@@ -1,6 +1,6 @@
 use Rattle.std.proofs.Common.{◌∙◌, ap, length, arith}
 use Rattle.ft_core.specs.declared.tables.Side.TheVariants as side
-use Rattle.ft_replay.proofs.CountLemmas.{item-there}
+use Rattle.ft_core.specs.laws.Places.{item-there}
 use Rattle.ft_replay.proofs.RowLemmas.{all-put-out, output-places, place-more, put-more}
 use Rattle.ft_replay.proofs.telling.tell_outputs.Goals as goal
 

@@ -10,5 +10,6 @@ all_hold-requires c = subst (AreSafeConds (row_view c.args.tables.now monitored 
     ((safe_always c.laws.ensures) c.args.tables.now monitored c.args.now.now [] true c.requires (λ e. absurd (true≢false e)))
 
 pub all_hold-requires-then-all_hold : goal.all_hold-requires-then-all_hold
-all_hold-requires-then-all_hold c = subst (AreSafeConds (row_view c.args.tables.now monitored c.args.now.now [] true)) (sym c.as_slice-then-all_hold.ensures)
+all_hold-requires-then-all_hold c = subst (AreSafeConds (row_view c.args.tables.now monitored c.args.now.now [] true))
+    (sym c.as_slice-then-all_hold.ensures)
     ((safe_first c.laws.ensures) c.args.tables.now monitored c.args.now.now [] true c.requires (λ e. absurd (true≢false e)))

@@ -7,5 +7,6 @@ pub rows-init : goal.rows-init
 rows-init c = no-rows c.args.table c.args.targets.now c.args.homes.now
 
 pub rows-preserved : goal.rows-preserved
-rows-preserved c = one-row c.args.table c.args.targets.now c.rows.row (slice_index_or c.args.targets.now c.rows.row 0) c.args.homes.now c.rows.homes c.put_home.new.homes
+rows-preserved c = one-row c.args.table c.args.targets.now c.rows.row (slice_index_or c.args.targets.now c.rows.row 0) c.args.homes.now
+    c.rows.homes c.put_home.new.homes
     c.rows.invariant (slice_get-get_or c.args.targets.now c.rows.row 0 c.rows-test.true) c.put_home.ensures

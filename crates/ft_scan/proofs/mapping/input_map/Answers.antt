@@ -8,10 +8,13 @@ use Rattle.ft_scan.proofs.mapping.input_map.Goals as goal
 pub map_row-requires-clause-can : goal.map_row-requires-clause-can
 map_row-requires-clause-can c = record {
   image = refl;
-  keeps = (row_keeps c.laws.ensures) c.args.tables.now monitored c.args.monitored_row.now [] true c.requires.row (λ e. absurd (true≢false e));
-  some = (has_values c.laws.ensures) c.args.tables.now c.requires.proper In monitored (λ r may. may) c.args.monitored_row.now c.requires.row;
+  keeps = (row_keeps c.laws.ensures) c.args.tables.now monitored c.args.monitored_row.now [] true c.requires.row
+      (λ e. absurd (true≢false e));
+  some = (has_values c.laws.ensures) c.args.tables.now c.requires.proper In monitored (λ r may. may) c.args.monitored_row.now
+      c.requires.row;
 }
 
 pub returns : goal.returns
-returns c = (image_maps c.laws.ensures) c.args.tables.now c.requires.proper In monitored (λ r may. may) c.args.monitored_row.now c.requires.row
+returns c = (image_maps c.laws.ensures) c.args.tables.now c.requires.proper In monitored (λ r may. may) c.args.monitored_row.now
+    c.requires.row
     c.map_row.new.image (c.map_row.ensures.width ∙ c.requires.room) c.map_row.ensures.values

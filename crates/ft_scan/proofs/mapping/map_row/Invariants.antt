@@ -5,4 +5,5 @@ use Rattle.ft_scan.specs.steps.Mapping.{IsFilled}
 use Rattle.ft_scan.proofs.mapping.map_row.Given as goal
 
 abbrev pub invariant-loop-table : goal.invariant-loop-table
-invariant-loop-table g l = IsFilled l.tables l.section (g.L.Look.view l.look) (λ x. list_any (is_for l.section x) (take l.table-index l.tables.tables)) l.initial.image l.image
+invariant-loop-table g l = IsFilled l.tables l.section (g.L.Look.view l.look)
+    (λ x. list_any (is_for l.section x) (take l.table-index l.tables.tables)) l.initial.image l.image

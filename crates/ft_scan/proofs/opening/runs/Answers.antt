@@ -9,5 +9,6 @@ loop-at-preserved c =
     let items = c.in_ok-push.ensures.items in (
       ap length items ∙ length_push c.loop-at.runs.items c.run_of.result ∙ ap (λ n. n + 1) c.loop-at.invariant.0,
       subst (AllStart c.args.tables.now (c.loop-at.at + 1)) (sym items)
-          (all_start_more c.args.tables.now c.loop-at.at c.loop-at.runs.items c.run_of.result c.loop-at.invariant.0 c.run_of.ensures c.loop-at.invariant.1),
+          (all_start_more c.args.tables.now c.loop-at.at c.loop-at.runs.items c.run_of.result c.loop-at.invariant.0 c.run_of.ensures
+          c.loop-at.invariant.1),
     )

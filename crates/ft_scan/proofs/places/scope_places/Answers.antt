@@ -7,14 +7,19 @@ use Rattle.ft_scan.proofs.places.scope_places.Goals.{then-has+in_ok-push, else-h
 
 pub loop-place-preserved : goal.loop-place-preserved
 loop-place-preserved c =
-    let there : slice_get c.args.tables.now.vars c.loop-place.place ≡ Some c.var-item.result = subst (λ vars. slice_get vars c.loop-place.place ≡ Some c.var-item.result)
-    c.as_slice-var-items.ensures (slice_get_read c.as_slice-var-items.result.now _ c.loop-place.place c.var-item.result refl c.loop-place-test.true c.var-item.is) in
+    let there : slice_get c.args.tables.now.vars c.loop-place.place ≡ Some c.var-item.result =
+    subst (λ vars. slice_get vars c.loop-place.place ≡ Some c.var-item.result)
+    c.as_slice-var-items.ensures (slice_get_read c.as_slice-var-items.result.now _ c.loop-place.place c.var-item.result refl
+    c.loop-place-test.true c.var-item.is) in
     elim c.if-has.branch [
-      | then-has+in_ok-push w ↦ subst (AreListed (kinds_of c.args.part) c.args.tables.now.vars (c.loop-place.place + 1)) (sym (w.places-is ∙ w.in_ok-push.ensures.ok))
-          (listed_more (kinds_of c.args.part) c.args.tables.now.vars c.loop-place.place c.var-item.result there c.loop-place.places c.loop-place.invariant
+      | then-has+in_ok-push w ↦ subst (AreListed (kinds_of c.args.part) c.args.tables.now.vars (c.loop-place.place + 1))
+          (sym (w.places-is ∙ w.in_ok-push.ensures.ok))
+          (listed_more (kinds_of c.args.part) c.args.tables.now.vars c.loop-place.place c.var-item.result there c.loop-place.places
+          c.loop-place.invariant
           (sym c.has.ensures ∙ w.if-has.true))
       | else-has w ↦ subst (AreListed (kinds_of c.args.part) c.args.tables.now.vars (c.loop-place.place + 1)) (sym w.places-is)
-          (listed_other (kinds_of c.args.part) c.args.tables.now.vars c.loop-place.place c.var-item.result there c.loop-place.places c.loop-place.invariant
+          (listed_other (kinds_of c.args.part) c.args.tables.now.vars c.loop-place.place c.var-item.result there c.loop-place.places
+          c.loop-place.invariant
           (sym c.has.ensures ∙ w.if-has.false))
     ]
 

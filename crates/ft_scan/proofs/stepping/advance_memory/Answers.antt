@@ -20,7 +20,8 @@ advance-truth-requires c =
     let ran = c.requires.frame.runs c.args.memory c.get.result.now c.get.ensures in
     let is = c.index_mut.ensures.value ∙ get_or_from_slice_get c.args.frame.now.runs.items c.args.memory ran.0 _ ran.1 in
     subst (λ r. CanHear r c.sample_of-sample.result) (sym is)
-    (subst (CanHear ran.0) (sym c.sample_of-sample.ensures) (can_hear (view_of c.args.frame.now) c.args.tables.now.period c.get.result.now ran.0 ran.2))
+    (subst (CanHear ran.0) (sym c.sample_of-sample.ensures) (can_hear (view_of c.args.frame.now) c.args.tables.now.period c.get.result.now
+    ran.0 ran.2))
 
 pub returns : goal.returns
 returns c =
@@ -33,8 +34,10 @@ returns c =
       next = c.advance-truth.new.run;
       says = c.advance-truth.result;
       ran = ran.1 ∙ ap Some (sym is);
-      advances = hears_advances (view_of c.args.frame.now) c.get.result.now c.index_mut.result.now c.advance-truth.new.run c.advance-truth.result
-          (subst (λ s. Hears c.index_mut.result.now s c.advance-truth.new.run c.advance-truth.result) c.sample_of-sample.ensures c.advance-truth.ensures);
+      advances = hears_advances (view_of c.args.frame.now) c.get.result.now c.index_mut.result.now c.advance-truth.new.run
+          c.advance-truth.result
+          (subst (λ s. Hears c.index_mut.result.now s c.advance-truth.new.run c.advance-truth.result) c.sample_of-sample.ensures
+          c.advance-truth.ensures);
       runs = refl {A = List Running};
       now = refl;
       past = refl;

@@ -10,7 +10,8 @@ run_step-requires-clause-frame c = (c.loop-step.invariant c.requires.told.0 c.re
 
 pub run_step-requires-clause-can : goal.run_step-requires-clause-can
 run_step-requires-clause-can c =
-    (can_take c.laws.ensures) c.args.tables.now c.requires.proper c.args.side c.args.steps.now c.requires.plan c.requires.told.0 c.requires.told.1 c.requires.told.2
+    (can_take c.laws.ensures) c.args.tables.now c.requires.proper c.args.side c.args.steps.now c.requires.plan c.requires.told.0
+    c.requires.told.1 c.requires.told.2
     c.loop-step.step-index c.loop-step.frame (c.loop-step.invariant c.requires.told.0 c.requires.told.1 c.requires.told.2 c.requires.told.3)
     _ (slice_get-get_or c.args.steps.now c.loop-step.step-index _ c.loop-step-test.true)
 

@@ -31,4 +31,5 @@ unfolding digits_after
 returns-clause-value c = sym (c.loop-b.invariant.rest ∙ rw (drop_all c.loop-b.b-index c.args.field.now c.loop-b-test.false) refl)
 
 pub returns-clause-small : goal.returns-clause-small
-returns-clause-small c = let most = small-at c.args.field.now c.loop-b.b-index c.requires c.loop-b.invariant.within in below-power c.loop-b.b-index c.loop-b.value most c.loop-b.invariant.small
+returns-clause-small c = let most = small-at c.args.field.now c.loop-b.b-index c.requires c.loop-b.invariant.within in
+    below-power c.loop-b.b-index c.loop-b.value most c.loop-b.invariant.small

@@ -3,7 +3,8 @@ use Rattle.ft_trace.proofs.reading.read_all.Goals as goal
 
 pub scans-smaller : goal.scans-smaller
 scans-smaller c =
-    let ok = rw c.in-Ok-true.field-0-test at c.in-Ok-true.ensures.ok c.requires.given.0 c.scans.history (c.scans.invariant.given c.requires.given.0 c.requires.given.1) in
+    let ok = rw c.in-Ok-true.field-0-test at c.in-Ok-true.ensures.ok c.requires.given.0 c.scans.history
+    (c.scans.invariant.given c.requires.given.0 c.requires.given.1) in
     less-left c.scans.history c.add.new.self c.next.new.values ok.so_far.few c.in-Ok.ensures.ok
 
 pub returns-in-Ok-false-clause-ok : goal.returns-in-Ok-false-clause-ok

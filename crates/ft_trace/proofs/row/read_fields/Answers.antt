@@ -1,15 +1,18 @@
 use Rattle.std.proofs.Common.{◌∙◌}
 use Rattle.csv.specs.Records.{fields_of}
-use Rattle.ft_trace.proofs.RowLemmas.{has-place, item-there, one-more, stops}
+use Rattle.ft_core.specs.laws.Places.{item-there}
+use Rattle.ft_trace.proofs.RowLemmas.{has-place, one-more, stops}
 use Rattle.ft_trace.proofs.row.read_fields.Goals as goal
 
 pub read_field-requires-clause-field : goal.read_field-requires-clause-field
-read_field-requires-clause-field c = has-place c.args.tables.now (fields_of c.args.row.now) c.vars.values c.vars.values c.vars.at c.var-item.result
+read_field-requires-clause-field c = has-place c.args.tables.now (fields_of c.args.row.now) c.vars.values c.vars.values c.vars.at
+    c.var-item.result
     (item-there _ _ c.vars.at c.var-item.result c.as_slice-var-items.ensures c.vars-test.true c.var-item.is)
     (c.vars.invariant.room ∙ c.requires.room) c.vars.invariant.spells (fields_of c.args.row.now) c.requires.width
 
 pub read_field-requires-clause-room : goal.read_field-requires-clause-room
-read_field-requires-clause-room c = has-place c.args.tables.now (fields_of c.args.row.now) c.vars.values c.vars.values c.vars.at c.var-item.result
+read_field-requires-clause-room c = has-place c.args.tables.now (fields_of c.args.row.now) c.vars.values c.vars.values c.vars.at
+    c.var-item.result
     (item-there _ _ c.vars.at c.var-item.result c.as_slice-var-items.ensures c.vars-test.true c.var-item.is)
     (c.vars.invariant.room ∙ c.requires.room) c.vars.invariant.spells c.vars.values (c.vars.invariant.room ∙ c.requires.room)
 

@@ -6,4 +6,5 @@ use Rattle.ft_trace.proofs.PlaceLemmas.{counted}
 use Rattle.ft_trace.proofs.row.width.Goals as goal
 
 pub returns : goal.returns
-returns c = c.count_monitored.ensures ∙ ap (λ (vars : List Var). count_by is_monitored vars) c.as_slice.ensures ∙ sym (counted c.args.tables.now.vars)
+returns c = c.count_monitored.ensures ∙ ap (λ (vars : List Var). count_by is_monitored vars) c.as_slice.ensures
+    ∙ sym (counted c.args.tables.now.vars)

@@ -1,4 +1,4 @@
-use Rattle.ft_trace.proofs.RowLemmas.{item-there}
+use Rattle.ft_core.specs.laws.Places.{item-there}
 use Rattle.ft_trace.proofs.WritingLemmas.{has-value}
 use Rattle.ft_trace.proofs.writing.add_scan.Goals as goal
 

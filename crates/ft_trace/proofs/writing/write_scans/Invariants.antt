@@ -7,5 +7,6 @@ use Rattle.ft_trace.proofs.writing.write_scans.Given as goal
 abbrev pub invariant-scans : goal.invariant-scans
 invariant-scans l = record {
   whole : IsWhole l.writer;
-  text : written l.writer ≡ written l.initial.writer ++ flat_map (λ scan. row_text default_writer (fields_by (scan_field scan) l.tables.vars)) (take l.scan l.history);
+  text : written l.writer ≡ written l.initial.writer ++ flat_map (λ scan. row_text default_writer
+      (fields_by (scan_field scan) l.tables.vars)) (take l.scan l.history);
 }

@@ -10,7 +10,8 @@ returns-clause-text c =
     let start : written c.from_writer-writer.result ≡ [] = search rules in
     let all : written c.write_scans.new.writer ≡ trace_text c.args.tables.now c.args.history.now =
     c.in_ok-write_scans.ensures.text
-    ∙ ap (λ (t : List ℕ). t ++ flat_map (λ scan. row_text default_writer (fields_by (scan_field scan) c.args.tables.now.vars)) c.args.history.now)
+    ∙ ap (λ (t : List ℕ). t ++ flat_map (λ scan. row_text default_writer (fields_by (scan_field scan) c.args.tables.now.vars))
+    c.args.history.now)
     (c.in_ok-write_header.ensures.text ∙ ap (λ (t : List ℕ). t ++ row_text default_writer (fields_by name_of c.args.tables.now.vars)) start)
     ∙ written-text c.args.tables.now c.args.history.now c.requires in
     subst (λ (t : List ℕ). IfOk c.finish.result (λ text. text ≡ t)) all c.finish.ensures

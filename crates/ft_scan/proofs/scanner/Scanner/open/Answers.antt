@@ -7,9 +7,17 @@ pub invariant_of-result : goal.invariant_of-result
 invariant_of-result c =
     let S = c.args.tables.now in
     let given = c.in_ok-scope_places.field-0 in let side_variables = c.in_ok-scope_places-2.field-0 in
-    subst (λ scans. Stands S (record { side = c.args.side; steps = c.in_ok-plan.field-0; given = given; side_variables = side_variables; frame = c.in_ok-first_frame.field-0 })
+    subst (λ scans. Stands S (record {
+      side = c.args.side;
+      steps = c.in_ok-plan.field-0;
+      given = given;
+      side_variables =
+          side_variables;
+      frame = c.in_ok-first_frame.field-0;
+    })
     (rows_at given scans) (rows_at side_variables scans)) (sym c.new.ensures)
-    (stands_first S c.args.side c.in_ok-plan.field-0 given side_variables c.in_ok-first_frame.field-0 c.in_ok-first_frame.ensures c.in_ok-plan.ensures
+    (stands_first S c.args.side c.in_ok-plan.field-0 given side_variables c.in_ok-first_frame.field-0 c.in_ok-first_frame.ensures
+    c.in_ok-plan.ensures
     c.in_ok-scope_places.ensures c.in_ok-scope_places-2.ensures)
 
 pub returns-clause-given : goal.returns-clause-given
