@@ -4,6 +4,7 @@ use Rattle.std.proofs.Common.{Option, Some, None, true≢false}
 use Rattle.std.specs.List.{list_all}
 use Rattle.std.proofs.lemmas.Option.{none-some, same_Some}
 use Rattle.std.specs.Cmp.Lexicographic.{bytes_decides}
+use Rattle.ft_core.specs.declared.tables.VarKind.TheVariants as kind
 use Rattle.ft_core.specs.declared.tables.Tables.{Tables}
 use Rattle.ft_core.specs.meaning.Kinds.{count_of, monitored}
 use Rattle.csv.specs.Records.{field_at}
