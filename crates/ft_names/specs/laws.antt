@@ -1,0 +1,3 @@
+-- Equations of the definitions, for the proofs of this crate and of those above it.
+pub mod First
+pub mod Parts

@@ -1,0 +1,17 @@
+//! The declared names of a set, and the first fault of its tree: the places of a tree in the order of its text, a walk
+//! over them that any test can take, and the tests of names.
+#![tactic(auto)]
+
+mod asked;
+mod fault;
+mod inspect;
+mod site;
+mod stop;
+mod walk;
+
+pub use asked::{Asked, ExprKind};
+pub use fault::NameFault;
+pub use inspect::{Inspect, inspect_parts};
+pub use site::Site;
+pub use stop::Stop;
+pub use walk::{Entries, Judge, Role, judge_set};
