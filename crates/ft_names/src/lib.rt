@@ -5,6 +5,7 @@
 mod asked;
 mod fault;
 mod inspect;
+mod names;
 mod site;
 mod stop;
 mod walk;
@@ -12,6 +13,7 @@ mod walk;
 pub use asked::{Asked, ExprKind};
 pub use fault::NameFault;
 pub use inspect::{Inspect, inspect_parts};
+pub use names::Names;
 pub use site::Site;
 pub use stop::Stop;
 pub use walk::{Entries, Judge, Role, judge_set};

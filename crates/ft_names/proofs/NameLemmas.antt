@@ -1,0 +1,69 @@
+-- The names of a map in order: where one stands, and where a new one goes.
+use Rattle.std.proofs.Common.{◌≡◌, ◌∙◌, sym, ap, refl, ◌⊎◌, inl, inr, ℕ, zero, suc, ◌+◌, Bool, true, false, not, ◌||◌, cond, is_some, nat_lt, List, [], ◌∷◌, ◌++◌, length, map, position, slice_get, Option, Some, None, option_map, bytes_eq, Vec, Global, arith}
+use Rattle.std.specs.List.{list_any, position_or_len}
+use Rattle.std.specs.Map.{keys_of, values_of}
+use Rattle.std.proofs.lemmas.Bool.{cases_Bool, true≢false}
+use Rattle.indexmap.specs.IndexMap.{insert_entry}
+use Rattle.ft_names.specs.meaning.Declared.{Listing, is_among, names_in, place_of}
+
+abbrev pub Entries : Type 0
+Entries = List (Vec ℕ Global × ℕ)
+
+abbrev pub shown : Entries → Listing
+shown es = map (λ e. (e.0.items, e.1)) es
+
+abbrev pub is_key : List ℕ → Vec ℕ Global → Bool
+is_key name key = bytes_eq name key.items
+
+abbrev pub same_key : Vec ℕ Global → Vec ℕ Global → Bool
+same_key a b = bytes_eq a.items b.items
+
+first-key : (name : List ℕ) (es : Entries) → position_or_len (bytes_eq name) (names_in (shown es)) ≡ position_or_len (is_key name) (keys_of es)
+first-key name [] = refl
+first-key name (e ∷ es) = ap (λ (n : ℕ). cond (not (bytes_eq name e.0.items)) (1 + n) 0) (first-key name es)
+
+names-length : (es : Entries) → length (names_in (shown es)) ≡ length (keys_of es)
+names-length [] = refl
+names-length (e ∷ es) = ap suc (names-length es)
+
+-- the place of a name is the index of its key
+pub place-key : (name : List ℕ) (es : Entries) → place_of (names_in (shown es)) name ≡ position (is_key name) (keys_of es)
+place-key name es = rw (first-key name es, names-length es) refl
+
+some-less : (a b n : ℕ) → is_some (cond (nat_lt a b) (Some n) None) ≡ nat_lt a b
+some-less a b n = elim (cases_Bool (nat_lt a b)) [ inl less ↦ rw less refl | inr more ↦ rw more refl ]
+
+less-zero : (b : ℕ) → nat_lt 0 (suc b) ≡ true
+less-zero b = grind arith
+
+less-suc : (a b : ℕ) → nat_lt (1 + a) (suc b) ≡ nat_lt a b
+less-suc a b = grind arith
+
+any-less : (names : List (List ℕ)) (name : List ℕ) → nat_lt (position_or_len (bytes_eq name) names) (length names) ≡ is_among names name
+any-less [] name = refl
+any-less (n ∷ names) name = elim (cases_Bool (bytes_eq name n)) [
+  | inl here ↦ rw here (less-zero (length names))
+  | inr other ↦ rw other (less-suc (position_or_len (bytes_eq name) names) (length names) ∙ any-less names name)
+]
+
+-- a name has a place exactly where it is among the names
+pub is_some-place_of : (names : List (List ℕ)) (name : List ℕ) → is_some (place_of names name) ≡ is_among names name
+is_some-place_of names name =
+    some-less (position_or_len (bytes_eq name) names) (length names) (position_or_len (bytes_eq name) names) ∙ any-less names name
+
+-- the number at a place of the map
+pub number-at : (es : Entries) (i n : ℕ) → slice_get (values_of es) i ≡ Some n → option_map (λ (entry : List ℕ × ℕ). entry.1) (slice_get (shown es) i) ≡ Some n
+number-at [] i n at = cc at
+number-at (e ∷ es) zero n at = at
+number-at (e ∷ es) (suc i) n at = number-at es i n at
+
+-- a name that is not there goes last
+pub goes-last : (name : List ℕ) (es : Entries) (key : Vec ℕ Global) (number : ℕ) → key.items ≡ name → is_among (names_in (shown es)) name ≡ false
+    → shown (insert_entry same_key es key number) ≡ shown es ++ (name, number) ∷ []
+goes-last name [] key number is absent = rw is refl
+goes-last name (e ∷ es) key number is absent = elim (cases_Bool (bytes_eq name e.0.items)) [
+  | inl there ↦ absurd (true≢false (ap (λ b. b || is_among (names_in (shown es)) name) (sym there) ∙ absent))
+  | inr other ↦ rw (ap (λ (n : List ℕ). bytes_eq n e.0.items) is ∙ other)
+      (ap (λ (list : Listing). (e.0.items, e.1) ∷ list)
+      (goes-last name es key number is (ap (λ b. b || is_among (names_in (shown es)) name) (sym other) ∙ absent)))
+]
