@@ -1,1 +1,4 @@
+pub mod DeclareLemmas
+pub mod FaultLemmas
 pub mod NameLemmas
+pub mod RoomLemmas

@@ -1,6 +1,6 @@
 -- The names of a map in order: where one stands, and where a new one goes.
-use Rattle.std.proofs.Common.{◌≡◌, ◌∙◌, sym, ap, refl, ◌⊎◌, inl, inr, ℕ, zero, suc, ◌+◌, Bool, true, false, not, ◌||◌, cond, is_some, nat_lt, List, [], ◌∷◌, ◌++◌, length, map, position, slice_get, Option, Some, None, option_map, bytes_eq, Vec, Global, arith}
-use Rattle.std.specs.List.{list_any, position_or_len}
+use Rattle.std.proofs.Common.{◌≡◌, ◌∙◌, sym, ap, refl, inl, inr, ℕ, zero, suc, ◌+◌, Bool, true, false, not, ◌||◌, cond, is_some, nat_lt, List, [], ◌∷◌, ◌++◌, length, map, position, slice_get, Some, None, option_map, bytes_eq, Vec, Global, arith}
+use Rattle.std.specs.List.{position_or_len}
 use Rattle.std.specs.Map.{keys_of, values_of}
 use Rattle.std.proofs.lemmas.Bool.{cases_Bool, true≢false}
 use Rattle.indexmap.specs.IndexMap.{insert_entry}

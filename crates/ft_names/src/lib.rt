@@ -3,17 +3,21 @@
 #![tactic(auto)]
 
 mod asked;
+mod declare;
 mod fault;
 mod inspect;
 mod names;
+mod resolving;
 mod site;
 mod stop;
+mod unknown;
 mod walk;
 
 pub use asked::{Asked, ExprKind};
 pub use fault::NameFault;
 pub use inspect::{Inspect, inspect_parts};
 pub use names::Names;
+pub use resolving::resolve;
 pub use site::Site;
 pub use stop::Stop;
 pub use walk::{Entries, Judge, Role, judge_set};

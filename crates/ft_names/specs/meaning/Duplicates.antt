@@ -2,13 +2,10 @@
 use Rattle.std.specs.Prelude.{ℕ, List, [], ◌∷◌, ◌++◌, map, Option, Some, None, if◌then◌else◌}
 use Rattle.std.specs.List.{flat_map}
 use Rattle.ft_tree.specs.declared.item.Word.{Word}
-use Rattle.ft_tree.specs.declared.item.FactItem.{FactItem}
-use Rattle.ft_tree.specs.declared.item.FactItem.TheVariants.{Shows, Goal}
 use Rattle.ft_tree.specs.declared.item.Item.{Item}
 use Rattle.ft_tree.specs.declared.item.Item.TheVariants.{Constant, RangeType, EnumType, Variable, Held, Hyst, Normal, Inverted, Vector, Nat, Block}
 use Rattle.ft_names.specs.declared.fault.NameFault.{NameFault}
 use Rattle.ft_names.specs.declared.fault.NameFault.TheVariants.{DuplicateName}
-use Rattle.ft_names.specs.meaning.First.{first_of}
 use Rattle.ft_names.specs.meaning.Declared.{fact_words, is_among, item_words}
 
 -- a word, and the names before it that it must differ from

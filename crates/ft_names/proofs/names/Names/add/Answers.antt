@@ -1,4 +1,4 @@
-use Rattle.std.proofs.Common.{◌≡◌, ◌∙◌, ◌++◌, ◌∷◌, [], sym, ap}
+use Rattle.std.proofs.Common.{◌∙◌, ◌++◌, ◌∷◌, [], sym, ap}
 use Rattle.ft_names.specs.meaning.Declared.{Listing, is_among, names_in}
 use Rattle.ft_names.proofs.NameLemmas.{goes-last, shown}
 use Rattle.ft_names.proofs.names.Names.add.Goals as goal

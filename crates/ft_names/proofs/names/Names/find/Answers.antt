@@ -1,4 +1,4 @@
-use Rattle.std.proofs.Common.{◌≡◌, ◌∙◌, sym}
+use Rattle.std.proofs.Common.{◌∙◌, sym}
 use Rattle.ft_names.proofs.NameLemmas.{place-key}
 use Rattle.ft_names.proofs.names.Names.find.Goals as goal
 
