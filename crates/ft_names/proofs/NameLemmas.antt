@@ -1,9 +1,11 @@
 -- The names of a map in order: where one stands, and where a new one goes.
-use Rattle.std.proofs.Common.{◌≡◌, ◌∙◌, sym, ap, refl, inl, inr, ℕ, zero, suc, ◌+◌, Bool, true, false, not, ◌||◌, cond, is_some, nat_lt, List, [], ◌∷◌, ◌++◌, length, map, position, slice_get, Some, None, option_map, bytes_eq, Vec, Global, arith}
+use Rattle.std.proofs.Common.{◌≡◌, ◌∙◌, sym, ap, refl, inl, inr, ℕ, zero, suc, ◌+◌, Bool, true, false, not, ◌||◌, cond, is_some, nat_lt, List, [], ◌∷◌, ◌++◌, length, map, position, slice_get, Some, None, Option, option_map, option_and_then, bytes_eq, zip, Vec, Global, arith}
 use Rattle.std.specs.List.{position_or_len}
 use Rattle.std.specs.Map.{keys_of, values_of}
+use Rattle.std.proofs.lemmas.List.{length-map}
 use Rattle.std.proofs.lemmas.Bool.{cases_Bool, true≢false}
 use Rattle.indexmap.specs.IndexMap.{insert_entry}
+use Rattle.ft_names.specs.meaning.Cards.{under}
 use Rattle.ft_names.specs.meaning.Declared.{Listing, is_among, names_in, place_of}
 
 abbrev pub Entries : Type 0
@@ -67,3 +69,33 @@ goes-last name (e ∷ es) key number is absent = elim (cases_Bool (bytes_eq name
       (ap (λ (list : Listing). (e.0.items, e.1) ∷ list)
       (goes-last name es key number is (ap (λ b. b || is_among (names_in (shown es)) name) (sym other) ∙ absent)))
 ]
+
+place-cases : (p len : ℕ) (b : Bool) → nat_lt p len ≡ b
+    → cond (nat_lt (1 + p) (suc len)) (Some (1 + p)) None ≡ option_map suc (cond (nat_lt p len) (Some p) None)
+place-cases p len true less = rw (less-suc p len, less) (ap Some (omega arith))
+place-cases p len false more = rw (less-suc p len, more) refl
+
+-- the place of a name that is not the first
+place_of-next : (n : List ℕ) (names : List (List ℕ)) (name : List ℕ) → bytes_eq name n ≡ false
+    → place_of (n ∷ names) name ≡ option_map suc (place_of names name)
+place_of-next n names name other =
+    rw other (place-cases (position_or_len (bytes_eq name) names) (length names) (nat_lt (position_or_len (bytes_eq name) names) (length names)) refl)
+
+next-get : {X : Type 0} (x : X) (xs : List X) (place : Option ℕ)
+    → option_and_then (slice_get (x ∷ xs)) (option_map suc place) ≡ option_and_then (slice_get xs) place
+next-get x xs None = refl
+next-get x xs (Some p) = refl
+
+-- what stands beside a name is found at its place
+pub under-zip : {X : Type 0} (names : List (List ℕ)) (xs : List X) (name : List ℕ) → length xs ≡ length names
+    → under (zip names xs) name ≡ option_and_then (slice_get xs) (place_of names name)
+under-zip [] xs name long = refl
+under-zip (n ∷ names) [] name long = absurd (omega arith)
+under-zip (n ∷ names) (x ∷ xs) name long = elim (cases_Bool (bytes_eq name n)) [
+  | inl here ↦ rw (here, less-zero (length names)) refl
+  | inr other ↦ rw (place_of-next n names name other, next-get x xs (place_of names name))
+      (rw other (under-zip names xs name (omega arith)))
+]
+
+pub names_in-length : (list : Listing) → length (names_in list) ≡ length list
+names_in-length list = length-map list (λ (entry : List ℕ × ℕ). entry.0)

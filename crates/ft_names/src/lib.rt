@@ -3,6 +3,8 @@
 #![tactic(auto)]
 
 mod asked;
+mod card;
+mod cards;
 mod declare;
 mod fault;
 mod inspect;
@@ -14,6 +16,8 @@ mod unknown;
 mod walk;
 
 pub use asked::{Asked, ExprKind};
+pub use card::{Card, Values};
+pub use cards::Cards;
 pub use fault::NameFault;
 pub use inspect::{Inspect, inspect_parts};
 pub use names::Names;
