@@ -3,6 +3,7 @@ use Rattle.std.proofs.Common.{◌≡◌, ◌∙◌, sym, ap, refl, inl, inr, ℕ
 use Rattle.std.specs.List.{position_or_len}
 use Rattle.std.specs.Map.{keys_of, values_of}
 use Rattle.std.proofs.lemmas.List.{length-map}
+use Rattle.std.proofs.lemmas.Option.{slice_get-map}
 use Rattle.std.proofs.lemmas.Bool.{cases_Bool, true≢false}
 use Rattle.indexmap.specs.IndexMap.{insert_entry}
 use Rattle.ft_names.specs.meaning.Cards.{under}
@@ -99,3 +100,21 @@ under-zip (n ∷ names) (x ∷ xs) name long = elim (cases_Bool (bytes_eq name n
 
 pub names_in-length : (list : Listing) → length (names_in list) ≡ length list
 names_in-length list = length-map list (λ (entry : List ℕ × ℕ). entry.0)
+
+zip-parts : (list : Listing) → zip (names_in list) (map (λ (entry : List ℕ × ℕ). entry.1) list) ≡ list
+zip-parts [] = refl
+zip-parts (e ∷ list) = ap (λ (l : Listing). e ∷ l) (zip-parts list)
+
+map-get : (list : Listing) (place : Option ℕ) → option_and_then (slice_get (map (λ (entry : List ℕ × ℕ). entry.1) list)) place
+    ≡ option_map (λ (entry : List ℕ × ℕ). entry.1) (option_and_then (slice_get list) place)
+map-get list None = refl
+map-get list (Some p) = slice_get-map (λ (entry : List ℕ × ℕ). entry.1) list p
+
+-- the number beside a name is found at its place
+pub under-place : (list : Listing) (name : List ℕ)
+    → under list name ≡ option_map (λ (entry : List ℕ × ℕ). entry.1) (option_and_then (slice_get list) (place_of (names_in list) name))
+under-place list name =
+    ap (λ (l : Listing). under l name) (sym (zip-parts list))
+    ∙ under-zip (names_in list) (map (λ (entry : List ℕ × ℕ). entry.1) list) name
+    (length-map list (λ (entry : List ℕ × ℕ). entry.1) ∙ sym (length-map list (λ (entry : List ℕ × ℕ). entry.0)))
+    ∙ map-get list (place_of (names_in list) name)

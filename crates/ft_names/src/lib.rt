@@ -5,6 +5,7 @@
 mod asked;
 mod card;
 mod cards;
+mod counts;
 mod declare;
 mod fault;
 mod inspect;
@@ -13,6 +14,7 @@ mod resolving;
 mod site;
 mod stop;
 mod unknown;
+mod values;
 mod walk;
 
 pub use asked::{Asked, ExprKind};
@@ -24,4 +26,5 @@ pub use names::Names;
 pub use resolving::resolve;
 pub use site::Site;
 pub use stop::Stop;
+pub use values::{bound_value, kind_values};
 pub use walk::{Entries, Judge, Role, judge_set};

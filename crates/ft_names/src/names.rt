@@ -1,5 +1,6 @@
 // Names, each with the number of the item that declares it.
 ghost use Rattle.std.specs.Prelude.{◌≡◌, ◌+◌, ◌<◌, ◌∷◌, ◌++◌, [], Some, IfOk, OnErr, not, length, slice_get, option_map, MatchBool, ◌^◌};
+ghost use Rattle.ft_names.specs.meaning.Cards.{under};
 ghost use Rattle.ft_names.specs.meaning.Declared.{is_among, names_in, place_of};
 
 use ft_base::NoMemory;
@@ -59,6 +60,16 @@ impl Names {
         ensures { option_map (λ entry. entry.1) (slice_get self.now place) ≡ Some result }
     {
         self.items[place as usize]
+    }
+
+    /// The number of the item that declares a name. None exactly where nothing does.
+    pub fn number_of(&self, name: &[u8]) -> Option<u32>
+        ensures { result ≡ under self.now name.now }
+    {
+        match self.find(name) {
+            Some(place) => Some(self.item(place)),
+            None => None,
+        }
     }
 
     /// Adds a name at the end, unless it is there already, and answers whether it was new. Where memory is refused the

@@ -47,10 +47,17 @@ plain_value items (plain.Truth value) = pos 0
 abbrev pub bound_value : List Item → Bound → ℤ
 bound_value items b = signed b.minus (plain_value items b.value)
 
+abbrev pub range_values : List Item → Bound → Bound → Values
+range_values items lo hi = Numbers (bound_value items lo) (bound_value items hi)
+
+-- the values of an enum type, where the name is its own and not that of a member
+abbrev pub enum_values : (own : Bool) → ℕ → (count : ℕ) → Values
+enum_values own k count = if own then Members k count else Untyped
+
 -- the values of the type that the item with number k declares under this name
 abbrev pub declared_values : List Item → List ℕ → ℕ → Option Item → Values
-declared_values items name k (Some (item.RangeType own lo hi)) = Numbers (bound_value items lo) (bound_value items hi)
-declared_values items name k (Some (item.EnumType own members)) = if bytes_eq name own.text then Members k (length members) else Untyped
+declared_values items name k (Some (item.RangeType own lo hi)) = range_values items lo hi
+declared_values items name k (Some (item.EnumType own members)) = enum_values (bytes_eq name own.text) k (length members)
 declared_values items name k _ = Untyped
 
 abbrev pub values_at : List Item → List ℕ → Option ℕ → Values
@@ -59,7 +66,7 @@ values_at items name (Some k) = declared_values items name k (slice_get items k)
 
 -- the values of a variable of this type
 abbrev pub kind_values : List Item → Kind → Values
-kind_values items (kind.Range lo hi) = Numbers (bound_value items lo) (bound_value items hi)
+kind_values items (kind.Range lo hi) = range_values items lo hi
 kind_values items (kind.Named word) = values_at items word.text (number_of items word.text)
 kind_values items kind.Bool = Truths
 
@@ -91,7 +98,7 @@ fact_cards block (position, Goal con) = []
 -- what the names stand for that an item declares, the one with number k of all items
 abbrev pub item_cards : List Item → ℕ → Item → List (List ℕ × Card)
 item_cards all k (item.Constant name minus value) = (name.text, Constant (signed minus (pos value.value))) ∷ []
-item_cards all k (item.RangeType name lo hi) = (name.text, TypeName (Numbers (bound_value all lo) (bound_value all hi))) ∷ []
+item_cards all k (item.RangeType name lo hi) = (name.text, TypeName (range_values all lo hi)) ∷ []
 item_cards all k (item.EnumType name members) =
     (name.text, TypeName (Members k (length members))) ∷ map (member_card k) (enumerate_from 0 members)
 item_cards all k (item.Variable word name of init) = (name.text, Variable (before is_variable all k) word (kind_values all of)) ∷ []

@@ -1,0 +1,36 @@
+-- What the list of the cards is made by.
+use Rattle.std.specs.Prelude.{ℕ, ◌+◌, Bool, true, List, map, if◌then◌else◌}
+use Rattle.ft_tree.specs.declared.item.Plain.{Plain}
+use Rattle.ft_tree.specs.declared.item.Plain.TheVariants as plain
+use Rattle.ft_tree.specs.declared.item.Item.{Item}
+use Rattle.ft_tree.specs.Limits.{is_number}
+use Rattle.ft_names.specs.declared.card.Card.{Card}
+use Rattle.ft_names.specs.declared.counts.Counts.{Counts}
+use Rattle.ft_names.specs.meaning.Cards.{before, is_block, is_memory, is_variable}
+
+-- a number in a bound is at most 10^9
+abbrev pub is_small : Plain → Bool
+is_small (plain.Number value) = is_number value
+is_small (plain.Name name) = true
+is_small (plain.Truth value) = true
+
+-- the cards beside names
+abbrev pub cards_in : List (List ℕ × Card) → List Card
+cards_in list = map (λ entry. entry.1) list
+
+abbrev pub counts_before : List Item → ℕ → Counts
+counts_before items k = record {
+  variables = before is_variable items k;
+  memories = before is_memory items k;
+  blocks = before is_block items k;
+}
+
+abbrev pub one_more : Bool → ℕ → ℕ
+one_more there n = if there then n + 1 else n
+
+abbrev pub counted : Counts → Item → Counts
+counted counts item = record {
+  variables = one_more (is_variable item) counts.variables;
+  memories = one_more (is_memory item) counts.memories;
+  blocks = one_more (is_block item) counts.blocks;
+}
