@@ -134,7 +134,7 @@ set_namings-one before item = append-nil (item_namings before item)
 abbrev pub item_repeat : List Item → Option NameFault
 item_repeat items = first_of repeated (set_namings [] items)
 
-at-place : (i : ℕ) (items : List Item) → i < length items → 0 + length (take i items) ≡ i
+pub at-place : (i : ℕ) (items : List Item) → i < length items → 0 + length (take i items) ≡ i
 at-place i items within = let taken : length (take i items) ≡ i = length-take-le i items (omega arith) in omega arith
 
 pub listing-next : (items : List Item) (i : ℕ) (x : Item) → i < length items → x ≡ slice_index_or items i x

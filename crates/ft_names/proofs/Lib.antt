@@ -1,3 +1,4 @@
+pub mod CardLemmas
 pub mod DeclareLemmas
 pub mod FaultLemmas
 pub mod NameLemmas

@@ -101,9 +101,10 @@ under-zip (n ∷ names) (x ∷ xs) name long = elim (cases_Bool (bytes_eq name n
 pub names_in-length : (list : Listing) → length (names_in list) ≡ length list
 names_in-length list = length-map list (λ (entry : List ℕ × ℕ). entry.0)
 
-zip-parts : (list : Listing) → zip (names_in list) (map (λ (entry : List ℕ × ℕ). entry.1) list) ≡ list
+pub zip-parts : {X : Type 0} (list : List (List ℕ × X))
+    → zip (map (λ (entry : List ℕ × X). entry.0) list) (map (λ (entry : List ℕ × X). entry.1) list) ≡ list
 zip-parts [] = refl
-zip-parts (e ∷ list) = ap (λ (l : Listing). e ∷ l) (zip-parts list)
+zip-parts (e ∷ list) = ap (λ l. e ∷ l) (zip-parts list)
 
 map-get : (list : Listing) (place : Option ℕ) → option_and_then (slice_get (map (λ (entry : List ℕ × ℕ). entry.1) list)) place
     ≡ option_map (λ (entry : List ℕ × ℕ). entry.1) (option_and_then (slice_get list) place)

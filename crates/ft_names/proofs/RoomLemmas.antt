@@ -105,3 +105,6 @@ few-names tree =
     let names = names-few 0 tree.items tree.lawful.parts in
     let facts = tree.lawful.facts in
     omega arith
+
+pub few-facts : (tree : Tree) → sum_by facts_of tree.items < 2 ^ 32
+few-facts tree = let facts = tree.lawful.facts in omega arith

@@ -4,6 +4,7 @@
 
 mod asked;
 mod card;
+mod carding;
 mod cards;
 mod counts;
 mod declare;
