@@ -22,7 +22,7 @@ use Rattle.ft_names.specs.declared.card.Card.{Card}
 use Rattle.ft_names.specs.declared.card.Card.TheVariants.{Member}
 use Rattle.ft_names.specs.declared.counts.Counts.{Counts}
 use Rattle.ft_names.specs.meaning.Declared.{Listing, entries, fact_words, item_words, listing, names_in}
-use Rattle.ft_names.specs.meaning.Cards.{before, cards_from, cards_of, fact_cards, is_block, is_memory, is_variable, item_cards, member_card}
+use Rattle.ft_names.specs.meaning.Cards.{count_before, cards_from, cards_of, fact_cards, declares_block, declares_memory, declares_variable, item_cards, member_card}
 use Rattle.ft_names.specs.naming.Counting.{cards_in, counted, counts_before, one_more}
 use Rattle.ft_names.proofs.DeclareLemmas.{at-place, names_in-append, take-next}
 use Rattle.ft_names.proofs.NameLemmas.{zip-parts}
@@ -85,7 +85,7 @@ facts-all block facts = ap (λ l. cards_in (flat_map (fact_cards block) l)) (num
 -- how many stand before the next item
 
 before-next : (test : Item → Bool) (items : List Item) (i : ℕ) (x : Item) → i < length items → x ≡ slice_index_or items i x
-    → one_more (test x) (before test items i) ≡ before test items (i + 1)
+    → one_more (test x) (count_before test items i) ≡ count_before test items (i + 1)
 before-next test items i x within is = elim (cases_Bool (test x)) [
   | inl passes ↦ rw passes (sym (count_by_more_yes test items i x within (ap test (sym is) ∙ passes)))
   | inr fails ↦ rw fails (sym (count_by_more_no test items i x within (ap test (sym is) ∙ fails)))
@@ -94,16 +94,16 @@ before-next test items i x within is = elim (cases_Bool (test x)) [
 counts-next : (items : List Item) (i : ℕ) (x : Item) → i < length items → x ≡ slice_index_or items i x
     → counted (counts_before items i) x ≡ counts_before items (i + 1)
 counts-next items i x within is = λ j. record {
-  variables = before-next is_variable items i x within is j;
-  memories = before-next is_memory items i x within is j;
-  blocks = before-next is_block items i x within is j;
+  variables = before-next declares_variable items i x within is j;
+  memories = before-next declares_memory items i x within is j;
+  blocks = before-next declares_block items i x within is j;
 }
 
 pub counted-next : (items : List Item) (i : ℕ) (x : Item) (counts next : Counts) → i < length items → x ≡ slice_index_or items i x
     → counts ≡ counts_before items i → next ≡ counted counts x → next ≡ counts_before items (i + 1)
 counted-next items i x counts next within is old new = new ∙ ap (λ (c : Counts). counted c x) old ∙ counts-next items i x within is
 
-before-few : (test : Item → Bool) (items : List Item) (i : ℕ) → i < length items → before test items i ≤ i
+before-few : (test : Item → Bool) (items : List Item) (i : ℕ) → i < length items → count_before test items i ≤ i
 before-few test items i within =
     let few = count_by-le-length test (take i items) in
     let taken : length (take i items) ≡ i = length-take-le i items (omega arith) in
@@ -112,12 +112,12 @@ before-few test items i within =
 pub counts-few : (items : List Item) (i : ℕ) (counts : Counts) → i < length items → length items < 2 ^ 32 → counts ≡ counts_before items i
     → (counts.variables + 1 < 2 ^ 32) × (counts.memories + 1 < 2 ^ 32) × (counts.blocks + 1 < 2 ^ 32)
 counts-few items i counts within few are =
-    let variables : counts.variables ≡ before is_variable items i = ap (λ (c : Counts). c.variables) are in
-    let memories : counts.memories ≡ before is_memory items i = ap (λ (c : Counts). c.memories) are in
-    let blocks : counts.blocks ≡ before is_block items i = ap (λ (c : Counts). c.blocks) are in
-    let a = before-few is_variable items i within in
-    let b = before-few is_memory items i within in
-    let c = before-few is_block items i within in
+    let variables : counts.variables ≡ count_before declares_variable items i = ap (λ (c : Counts). c.variables) are in
+    let memories : counts.memories ≡ count_before declares_memory items i = ap (λ (c : Counts). c.memories) are in
+    let blocks : counts.blocks ≡ count_before declares_block items i = ap (λ (c : Counts). c.blocks) are in
+    let a = before-few declares_variable items i within in
+    let b = before-few declares_memory items i within in
+    let c = before-few declares_block items i within in
     (omega arith, omega arith, omega arith)
 
 facts-within : (items : List Item) (i : ℕ) (x : Item) → slice_get items i ≡ Some x → facts_of x ≤ sum_by facts_of items
@@ -186,7 +186,7 @@ item-names all k (Normal section target columns rows) = refl
 item-names all k (Inverted section target headers rows) = refl
 item-names all k (Vector section columns rows) = refl
 item-names all k (Nat moment cond) = refl
-item-names all k (Block name takes uses facts) = ap (λ (names : List (List ℕ)). name.text ∷ names) (fact-names k (before is_block all k) 0 facts)
+item-names all k (Block name takes uses facts) = ap (λ (names : List (List ℕ)). name.text ∷ names) (fact-names k (count_before declares_block all k) 0 facts)
 
 names-carded : (all : List Item) (k : ℕ) (items : List Item) → names_in (listing k items) ≡ names_of (cards_from all k items)
 unfolding listing cards_from

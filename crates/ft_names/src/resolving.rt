@@ -3,7 +3,7 @@ ghost use Rattle.std.specs.List.{list_all, list_any};
 ghost use Rattle.ft_tree.specs.Limits.{is_item};
 ghost use Rattle.ft_names.specs.meaning.Declared.{listing};
 ghost use Rattle.ft_names.specs.meaning.First.{Answers};
-ghost use Rattle.ft_names.specs.meaning.NameFaults.{AnswersNames, is_controlled, is_monitored, name_fault, no_variable, wanted};
+ghost use Rattle.ft_names.specs.meaning.NameFaults.{AnswersNames, declares_controlled, declares_monitored, name_fault, no_variable, wanted};
 
 use crate::declare::declare_items;
 use crate::fault::NameFault;
@@ -15,8 +15,8 @@ use ft_core::VarKind;
 use ft_tree::{Item, Tree, VarWord};
 use std::alloc::Global;
 
-fn is_monitored(item: &Item) -> bool
-    ensures { result ≡ is_monitored item.now }
+fn declares_monitored(item: &Item) -> bool
+    ensures { result ≡ declares_monitored item.now }
 {
     match item {
         Item::Variable {
@@ -27,8 +27,8 @@ fn is_monitored(item: &Item) -> bool
     }
 }
 
-fn is_controlled(item: &Item) -> bool
-    ensures { result ≡ is_controlled item.now }
+fn declares_controlled(item: &Item) -> bool
+    ensures { result ≡ declares_controlled item.now }
 {
     match item {
         Item::Variable {
@@ -40,15 +40,15 @@ fn is_controlled(item: &Item) -> bool
 }
 
 fn has_monitored(items: &[Item]) -> bool
-    ensures { result ≡ list_any is_monitored items.now }
+    ensures { result ≡ list_any declares_monitored items.now }
 {
-    items.iter().any(|item| is_monitored(item))
+    items.iter().any(|item| declares_monitored(item))
 }
 
 fn has_controlled(items: &[Item]) -> bool
-    ensures { result ≡ list_any is_controlled items.now }
+    ensures { result ≡ list_any declares_controlled items.now }
 {
-    items.iter().any(|item| is_controlled(item))
+    items.iter().any(|item| declares_controlled(item))
 }
 
 // The fault of a kind of which there is no variable.

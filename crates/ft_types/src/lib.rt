@@ -2,6 +2,7 @@
 #![tactic(auto)]
 
 mod fault;
+mod judging;
 mod kinds;
 mod mismatch;
 mod mismatches;
@@ -9,5 +10,6 @@ mod reading;
 mod sides;
 
 pub use fault::TypeFault;
+pub use judging::{judge_kinds, judge_sides};
 pub use mismatch::Mismatches;
 pub use sides::Sides;

@@ -1,7 +1,7 @@
 ghost use Rattle.std.specs.Prelude.{◌≡◌};
 ghost use Rattle.ft_names.specs.meaning.Cards.{under};
 ghost use Rattle.ft_names.specs.meaning.First.{Answers};
-ghost use Rattle.ft_types.specs.meaning.Mismatch.{asked_for, asked_of_kind, fits, is_constant, is_controlled, is_item, is_member_name, is_member_of, is_truth, is_value_of, is_whole, mismatch_at, mismatch_spot, named_values, is_type, type_kind};
+ghost use Rattle.ft_types.specs.meaning.Mismatch.{asked_for, asked_of_kind, fits, is_constant, is_controlled, is_variable_or_memory, is_member_name, is_member_of, is_truth, is_value_of, is_whole, mismatch_at, mismatch_spot, named_values, is_type, type_kind};
 
 use crate::fault::TypeFault;
 use crate::mismatch::{Mismatches, is_variable, values_kind};
@@ -16,7 +16,7 @@ fn fits(role: Role, card: Option<Card>) -> bool
     match role {
         Role::TypeName => is_type(card),
         Role::Target(_) => is_variable(card),
-        Role::Taken => is_item(card),
+        Role::Taken => is_variable_or_memory(card),
         Role::Used => true,
         Role::Goal => is_controlled(card),
     }
@@ -55,8 +55,8 @@ fn is_controlled(card: Option<Card>) -> bool
 }
 
 // Whether this is a variable or a memory.
-fn is_item(card: Option<Card>) -> bool
-    ensures { result ≡ is_item card }
+fn is_variable_or_memory(card: Option<Card>) -> bool
+    ensures { result ≡ is_variable_or_memory card }
 {
     match card {
         Some(Card::Variable { .. }) | Some(Card::Memory { .. }) => true,

@@ -70,22 +70,22 @@ kind_values items (kind.Range lo hi) = range_values items lo hi
 kind_values items (kind.Named word) = values_at items word.text (number_of items word.text)
 kind_values items kind.Bool = Truths
 
-abbrev pub is_variable : Item → Bool
-is_variable (item.Variable word name of init) = true
-is_variable _ = false
+abbrev pub declares_variable : Item → Bool
+declares_variable (item.Variable word name of init) = true
+declares_variable _ = false
 
-abbrev pub is_memory : Item → Bool
-is_memory (item.Held side name cond hold) = true
-is_memory (item.Hyst side name term lo hi start) = true
-is_memory _ = false
+abbrev pub declares_memory : Item → Bool
+declares_memory (item.Held side name cond hold) = true
+declares_memory (item.Hyst side name term lo hi start) = true
+declares_memory _ = false
 
-abbrev pub is_block : Item → Bool
-is_block (item.Block name takes uses facts) = true
-is_block _ = false
+abbrev pub declares_block : Item → Bool
+declares_block (item.Block name takes uses facts) = true
+declares_block _ = false
 
 -- how many of these items stand before item k
-abbrev pub before : (Item → Bool) → List Item → ℕ → ℕ
-before test items k = count_by test (take k items)
+abbrev pub count_before : (Item → Bool) → List Item → ℕ → ℕ
+count_before test items k = count_by test (take k items)
 
 -- a member and a fact come with their positions, from 0
 abbrev pub member_card : ℕ → ℕ × Word → List ℕ × Card
@@ -101,15 +101,15 @@ item_cards all k (item.Constant name minus value) = (name.text, Constant (signed
 item_cards all k (item.RangeType name lo hi) = (name.text, TypeName (range_values all lo hi)) ∷ []
 item_cards all k (item.EnumType name members) =
     (name.text, TypeName (Members k (length members))) ∷ map (member_card k) (enumerate_from 0 members)
-item_cards all k (item.Variable word name of init) = (name.text, Variable (before is_variable all k) word (kind_values all of)) ∷ []
-item_cards all k (item.Held side name cond hold) = (name.text, Memory (before is_memory all k) side (Some (bound_value all hold))) ∷ []
-item_cards all k (item.Hyst side name term lo hi start) = (name.text, Memory (before is_memory all k) side None) ∷ []
+item_cards all k (item.Variable word name of init) = (name.text, Variable (count_before declares_variable all k) word (kind_values all of)) ∷ []
+item_cards all k (item.Held side name cond hold) = (name.text, Memory (count_before declares_memory all k) side (Some (bound_value all hold))) ∷ []
+item_cards all k (item.Hyst side name term lo hi start) = (name.text, Memory (count_before declares_memory all k) side None) ∷ []
 item_cards all k (item.Normal section target columns rows) = []
 item_cards all k (item.Inverted section target headers rows) = []
 item_cards all k (item.Vector section columns rows) = []
 item_cards all k (item.Nat moment cond) = []
 item_cards all k (item.Block name takes uses facts) =
-    (name.text, Block (before is_block all k)) ∷ flat_map (fact_cards (before is_block all k)) (enumerate_from 0 facts)
+    (name.text, Block (count_before declares_block all k)) ∷ flat_map (fact_cards (count_before declares_block all k)) (enumerate_from 0 facts)
 
 -- the same of items that are numbered from k on
 unfoldable pub cards_from : List Item → ℕ → List Item → List (List ℕ × Card)

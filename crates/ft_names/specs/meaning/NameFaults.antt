@@ -17,20 +17,20 @@ use Rattle.ft_names.specs.meaning.Duplicates.{repeated, set_namings}
 use Rattle.ft_names.specs.meaning.Unknown.{unknown_spot}
 use Rattle.ft_names.specs.meaning.Spots.{spots}
 
-abbrev pub is_monitored : Item → Bool
-is_monitored (Variable word.Mon name of init) = true
-is_monitored _ = false
+abbrev pub declares_monitored : Item → Bool
+declares_monitored (Variable word.Mon name of init) = true
+declares_monitored _ = false
 
-abbrev pub is_controlled : Item → Bool
-is_controlled (Variable word.Con name of init) = true
-is_controlled _ = false
+abbrev pub declares_controlled : Item → Bool
+declares_controlled (Variable word.Con name of init) = true
+declares_controlled _ = false
 
 abbrev pub wanted : VarKind → (there : Bool) → Option NameFault
 wanted k there = if there then None else Some (NoVariable k)
 
 -- no monitored, or else no controlled variable
 abbrev pub no_variable : List Item → Option NameFault
-no_variable items = option_or (wanted kind.Mon (list_any is_monitored items)) (wanted kind.Con (list_any is_controlled items))
+no_variable items = option_or (wanted kind.Mon (list_any declares_monitored items)) (wanted kind.Con (list_any declares_controlled items))
 
 abbrev pub duplicate : List Item → Option NameFault
 duplicate items = first_of repeated (set_namings [] items)

@@ -6,7 +6,7 @@ use Rattle.ft_tree.specs.declared.item.Item.{Item}
 use Rattle.ft_tree.specs.Limits.{is_number}
 use Rattle.ft_names.specs.declared.card.Card.{Card}
 use Rattle.ft_names.specs.declared.counts.Counts.{Counts}
-use Rattle.ft_names.specs.meaning.Cards.{before, is_block, is_memory, is_variable}
+use Rattle.ft_names.specs.meaning.Cards.{count_before, declares_block, declares_memory, declares_variable}
 
 -- a number in a bound is at most 10^9
 abbrev pub is_small : Plain → Bool
@@ -20,9 +20,9 @@ cards_in list = map (λ entry. entry.1) list
 
 abbrev pub counts_before : List Item → ℕ → Counts
 counts_before items k = record {
-  variables = before is_variable items k;
-  memories = before is_memory items k;
-  blocks = before is_block items k;
+  variables = count_before declares_variable items k;
+  memories = count_before declares_memory items k;
+  blocks = count_before declares_block items k;
 }
 
 abbrev pub one_more : Bool → ℕ → ℕ
@@ -30,7 +30,7 @@ one_more there n = if there then n + 1 else n
 
 abbrev pub counted : Counts → Item → Counts
 counted counts item = record {
-  variables = one_more (is_variable item) counts.variables;
-  memories = one_more (is_memory item) counts.memories;
-  blocks = one_more (is_block item) counts.blocks;
+  variables = one_more (declares_variable item) counts.variables;
+  memories = one_more (declares_memory item) counts.memories;
+  blocks = one_more (declares_block item) counts.blocks;
 }

@@ -118,17 +118,17 @@ is_controlled (Some (Variable place word.Con values)) = true
 is_controlled _ = false
 
 -- a variable or a memory
-abbrev pub is_item : Option Card → Bool
-is_item (Some (Variable place kind values)) = true
-is_item (Some (Memory place side hold)) = true
-is_item _ = false
+abbrev pub is_variable_or_memory : Option Card → Bool
+is_variable_or_memory (Some (Variable place kind values)) = true
+is_variable_or_memory (Some (Memory place side hold)) = true
+is_variable_or_memory _ = false
 
 -- a name may be used so: a type's after `:`, a variable's as what a table defines, a variable's or memory's after `takes`, a controlled
 -- variable's as a goal. What `uses` names is asked for later, as an invariant
 abbrev pub fits : Role → Option Card → Bool
 fits role.TypeName card = is_type card
 fits (role.Target section) card = is_variable card
-fits role.Taken card = is_item card
+fits role.Taken card = is_variable_or_memory card
 fits role.Used card = true
 fits role.Goal card = is_controlled card
 

@@ -67,17 +67,17 @@ reads Sof kind = is_designed kind
 reads Out kind = is_output kind
 reads Shows kind = true
 
-abbrev pub is_section : SectionWord → SectionWord → Bool
-is_section section.In section.In = true
-is_section section.Req section.Req = true
-is_section section.Sof section.Sof = true
-is_section section.Out section.Out = true
-is_section _ _ = false
+abbrev pub same_section_word : SectionWord → SectionWord → Bool
+same_section_word section.In section.In = true
+same_section_word section.Req section.Req = true
+same_section_word section.Sof section.Sof = true
+same_section_word section.Out section.Out = true
+same_section_word _ _ = false
 
 -- a memory of this side may be read there
 abbrev pub remembers : Site → SectionWord → Bool
-remembers Req side = is_section side section.Req
-remembers Sof side = is_section side section.Sof
+remembers Req side = same_section_word side section.Req
+remembers Sof side = same_section_word side section.Sof
 remembers Shows side = true
 remembers First side = false
 remembers Always side = false
