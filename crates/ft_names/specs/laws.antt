@@ -1,3 +1,4 @@
--- Equations of the definitions, for the proofs of this crate and of those above it.
+-- Equations of the definitions, and statements of laws, for the proofs of this crate and of those above it.
 pub mod First
+pub mod Names
 pub mod Parts
