@@ -48,7 +48,8 @@ numbered-at xs i d within =
     let long = length-enumerate_from 0 xs in
     let start : 0 + i ≡ i = omega arith in
     take_more (enumerate_from 0 xs) i (0, d) (omega arith)
-    ∙ ap (λ y. take i (enumerate_from 0 xs) ++ y ∷ []) (get_or-enumerate_from 0 xs i (0, d) within ∙ ap (λ n. (n, slice_index_or xs i d)) start)
+    ∙ ap (λ y. take i (enumerate_from 0 xs) ++ y ∷ []) (get_or-enumerate_from 0 xs i (0, d) within
+    ∙ ap (λ n. (n, slice_index_or xs i d)) start)
 
 pub numbered-all : {X : Type 0} (xs : List X) → take (length xs) (enumerate_from 0 xs) ≡ enumerate_from 0 xs
 numbered-all xs = ap (λ n. take n (enumerate_from 0 xs)) (sym (length-enumerate_from 0 xs)) ∙ take-length (enumerate_from 0 xs)
@@ -62,9 +63,14 @@ members-next item [] i within = absurd (omega arith)
 members-next item (w ∷ words) i within =
     ap (λ l. cards_in (map (member_card item) l)) (numbered-at (w ∷ words) i w within)
     ∙ ap cards_in (map-append (member_card item) (take i (enumerate_from 0 (w ∷ words))) ((i, slice_index_or (w ∷ words) i w) ∷ []))
-    ∙ cards_in-append (map (member_card item) (take i (enumerate_from 0 (w ∷ words)))) (member_card item (i, slice_index_or (w ∷ words) i w) ∷ [])
+    ∙ cards_in-append (map (member_card item) (take i (enumerate_from 0 (w ∷ words)))) (member_card item (
+      i,
+      slice_index_or
+          (w ∷ words) i w,
+    ) ∷ [])
 
-pub members-all : (item : ℕ) (members : List Word) → member_cards item members (length members) ≡ cards_in (map (member_card item) (enumerate_from 0 members))
+pub members-all : (item : ℕ) (members : List Word) → member_cards item members (length members)
+    ≡ cards_in (map (member_card item) (enumerate_from 0 members))
 members-all item members = ap (λ l. cards_in (map (member_card item) l)) (numbered-all members)
 
 abbrev pub invariant_cards : ℕ → List FactItem → ℕ → List Card
@@ -79,7 +85,8 @@ facts-next block facts i x within is =
     ∙ cards_in-append (flat_map (fact_cards block) (take i (enumerate_from 0 facts))) (flat_map (fact_cards block) ((i, x) ∷ []))
     ∙ ap (λ l. invariant_cards block facts i ++ cards_in l) (append-nil (fact_cards block (i, x)))
 
-pub facts-all : (block : ℕ) (facts : List FactItem) → invariant_cards block facts (length facts) ≡ cards_in (flat_map (fact_cards block) (enumerate_from 0 facts))
+pub facts-all : (block : ℕ) (facts : List FactItem) → invariant_cards block facts (length facts)
+    ≡ cards_in (flat_map (fact_cards block) (enumerate_from 0 facts))
 facts-all block facts = ap (λ l. cards_in (flat_map (fact_cards block) l)) (numbered-all facts)
 
 -- how many stand before the next item
@@ -132,14 +139,16 @@ facts-within (y ∷ items) (suc i) x at =
     let sum = sum_by-cons facts_of y items in
     omega arith
 
-pub facts-few : (items : List Item) (i : ℕ) (x : Item) → i < length items → x ≡ slice_index_or items i x → sum_by facts_of items < 2 ^ 32 → facts_of x < 2 ^ 32
+pub facts-few : (items : List Item) (i : ℕ) (x : Item) → i < length items → x ≡ slice_index_or items i x
+    → sum_by facts_of items < 2 ^ 32 → facts_of x < 2 ^ 32
 facts-few items i x within is few =
     let most = facts-within items i x (slice_get-get_or items i x within ∙ ap (λ (y : Item). Some y) (sym is)) in
     omega arith
 
 -- item after item
 
-cards-append : (all : List Item) (k : ℕ) (xs ys : List Item) → cards_from all k (xs ++ ys) ≡ cards_from all k xs ++ cards_from all (k + length xs) ys
+cards-append : (all : List Item) (k : ℕ) (xs ys : List Item)
+    → cards_from all k (xs ++ ys) ≡ cards_from all k xs ++ cards_from all (k + length xs) ys
 unfolding cards_from
 cards-append all k [] ys = ap (λ n. cards_from all n ys) (omega arith)
 cards-append all k (x ∷ xs) ys =
@@ -186,7 +195,8 @@ item-names all k (Normal section target columns rows) = refl
 item-names all k (Inverted section target headers rows) = refl
 item-names all k (Vector section columns rows) = refl
 item-names all k (Nat moment cond) = refl
-item-names all k (Block name takes uses facts) = ap (λ (names : List (List ℕ)). name.text ∷ names) (fact-names k (count_before declares_block all k) 0 facts)
+item-names all k (Block name takes uses facts) = ap (λ (names : List (List ℕ)). name.text ∷ names) (fact-names k
+    (count_before declares_block all k) 0 facts)
 
 names-carded : (all : List Item) (k : ℕ) (items : List Item) → names_in (listing k items) ≡ names_of (cards_from all k items)
 unfolding listing cards_from
@@ -211,6 +221,7 @@ carded-length items names list are made =
     ∙ sym (ap length (names-carded items 0 items)) ∙ length-map (listing 0 items) (λ (entry : List ℕ × ℕ). entry.0) ∙ sym (ap length are)
 
 -- what holds of a variable's type
-pub kind-lawful : (word : VarWord) (name : Word) (of : Kind) (init : Bound) → is_item (Variable word name of init) ≡ true → is_kind of ≡ true
+pub kind-lawful : (word : VarWord) (name : Word) (of : Kind) (init : Bound) → is_item (Variable word name of init) ≡ true
+    → is_kind of ≡ true
 kind-lawful word name of init lawful =
     (and_parts (is_word name) (is_kind of) (and_parts (is_word name && is_kind of) (is_init init) lawful).0).1

@@ -22,7 +22,8 @@ pub names_in-entries : (number : ℕ) (words : List Word) → names_in (entries 
 names_in-entries number [] = refl
 names_in-entries number (w ∷ words) = ap (λ (names : List (List ℕ)). w.text ∷ names) (names_in-entries number words)
 
-pub namings-append : (before : List (List ℕ)) (xs ys : List Word) → namings before (xs ++ ys) ≡ namings before xs ++ namings (before ++ texts xs) ys
+pub namings-append : (before : List (List ℕ)) (xs ys : List Word)
+    → namings before (xs ++ ys) ≡ namings before xs ++ namings (before ++ texts xs) ys
 namings-append before [] ys = ap (λ b. namings b ys) (sym (append-nil before))
 namings-append before (x ∷ xs) ys =
     ap (λ rest. (before, x) ∷ rest) (namings-append (before ++ x.text ∷ []) xs ys
@@ -44,18 +45,22 @@ declared-next old mid number front here made none =
     ∙ ap (λ b. first_of repeated (namings b here))
     (sym (ap names_in made ∙ names_in-append old (entries number front) ∙ ap (λ b. names_in old ++ b) (names_in-entries number front)))
 
-pub declared-none : (old mid : Listing) (number : ℕ) (front here more : List Word) → more ≡ front ++ here → mid ≡ old ++ entries number front
+pub declared-none : (old mid : Listing) (number : ℕ) (front here more : List Word) → more ≡ front ++ here
+    → mid ≡ old ++ entries number front
     → repeat_in old front ≡ None → repeat_in mid here ≡ None → repeat_in old more ≡ None
 declared-none old mid number front here more is made none clear =
     ap (repeat_in old) is ∙ declared-next old mid number front here made none ∙ clear
 
-pub declared-made : (old mid new : Listing) (number : ℕ) (front here more : List Word) → more ≡ front ++ here → mid ≡ old ++ entries number front
+pub declared-made : (old mid new : Listing) (number : ℕ) (front here more : List Word) → more ≡ front ++ here
+    → mid ≡ old ++ entries number front
     → new ≡ mid ++ entries number here → new ≡ old ++ entries number more
 declared-made old mid new number front here more is made added =
     added ∙ ap (λ (list : Listing). list ++ entries number here) made ∙ append_assoc old (entries number front) (entries number here)
-    ∙ ap (λ (list : Listing). old ++ list) (sym (map-append (λ (w : Word). (w.text, number)) front here)) ∙ ap (λ ws. old ++ entries number ws) (sym is)
+    ∙ ap (λ (list : Listing). old ++ list) (sym (map-append (λ (w : Word). (w.text, number)) front here))
+    ∙ ap (λ ws. old ++ entries number ws) (sym is)
 
-repeat-front : (old : Listing) (front rest : List Word) (fault : NameFault) → repeat_in old front ≡ Some fault → repeat_in old (front ++ rest) ≡ Some fault
+repeat-front : (old : Listing) (front rest : List Word) (fault : NameFault) → repeat_in old front ≡ Some fault
+    → repeat_in old (front ++ rest) ≡ Some fault
 repeat-front old front rest fault here =
     ap (first_of repeated) (namings-append (names_in old) front rest)
     ∙ first_of-append repeated (namings (names_in old) front) (namings (names_in old ++ texts front) rest)
@@ -80,13 +85,15 @@ declared-room old mid number front here more rest all is whole made room =
     omega arith
 
 -- the list as a loop comes to an item
-pub take-next : {X : Type 0} (xs : List X) (i : ℕ) (x : X) → i < length xs → x ≡ slice_index_or xs i x → take (i + 1) xs ≡ take i xs ++ x ∷ []
+pub take-next : {X : Type 0} (xs : List X) (i : ℕ) (x : X) → i < length xs → x ≡ slice_index_or xs i x
+    → take (i + 1) xs ≡ take i xs ++ x ∷ []
 take-next xs i x within is = take_more xs i x within ∙ ap (λ y. take i xs ++ y ∷ []) (sym is)
 
 pub flat-next : {X Y : Type 0} (f : X → List Y) (xs : List X) (i : ℕ) (x : X) → i < length xs → x ≡ slice_index_or xs i x
     → flat_map f (take (i + 1) xs) ≡ flat_map f (take i xs) ++ f x
 flat-next f xs i x within is =
-    ap (flat_map f) (take-next xs i x within is) ∙ flat_map-append f (take i xs) (x ∷ []) ∙ ap (λ l. flat_map f (take i xs) ++ l) (append-nil (f x))
+    ap (flat_map f) (take-next xs i x within is) ∙ flat_map-append f (take i xs) (x ∷ [])
+    ∙ ap (λ l. flat_map f (take i xs) ++ l) (append-nil (f x))
 
 pub flat-whole : {X Y : Type 0} (f : X → List Y) (xs : List X) (n : ℕ) → flat_map f xs ≡ flat_map f (take n xs) ++ flat_map f (drop n xs)
 flat-whole f xs n = ap (flat_map f) (sym (take-append-drop n xs)) ∙ flat_map-append f (take n xs) (drop n xs)
@@ -161,11 +168,13 @@ item_repeat-none items i x names within is made none clear = item_repeat-next it
 
 pub item_repeat-stops : (stop : Stop NameFault) (items : List Item) (i : ℕ) (x : Item) (names : Listing) → i < length items
     → x ≡ slice_index_or items i x → names ≡ listing 0 (take i items) → item_repeat (take i items) ≡ None
-    → Answers {A = Unit {0}} (Err stop) (first_of repeated (item_namings (names_in names) x)) → Answers {A = Unit {0}} (Err stop) (item_repeat items)
+    → Answers {A = Unit {0}} (Err stop) (first_of repeated (item_namings (names_in names) x)) → Answers {A = Unit {0}} (Err stop)
+    (item_repeat items)
 item_repeat-stops (Fault fault) items i x names within is made none found =
     ap item_repeat (sym (take-append-drop (i + 1) items))
     ∙ ap (first_of repeated) (set_namings-append [] (take (i + 1) items) (drop (i + 1) items))
-    ∙ first_of-append repeated (set_namings [] (take (i + 1) items)) (set_namings (flat_map item_texts (take (i + 1) items)) (drop (i + 1) items))
+    ∙ first_of-append repeated (set_namings [] (take (i + 1) items)) (set_namings (flat_map item_texts (take (i + 1) items)) (drop
+    (i + 1) items))
     ∙ ap (λ o. option_or o (first_of repeated (set_namings (flat_map item_texts (take (i + 1) items)) (drop (i + 1) items))))
     (item_repeat-next items i x names within is made none ∙ found)
 item_repeat-stops NoMemory items i x names within is made none found = tt
@@ -177,7 +186,8 @@ item-room items i x names within is made room =
     ap length (listing-next items i x within is) ∙ length-append (listing 0 (take i items)) (entries i (item_words x))
     ∙ ap (λ n. length (listing 0 (take i items)) + n) (length-map (item_words x) (λ (w : Word). (w.text, i)))
     ∙ ap (λ (list : Listing). length list + length (item_words x)) (sym made) in
-    let all : length (listing 0 items) ≡ length (listing 0 (take (i + 1) items)) + length (listing (0 + length (take (i + 1) items)) (drop (i + 1) items)) =
+    let all : length (listing 0 items) ≡ length (listing 0 (take (i + 1) items)) + length (listing (0 + length (take (i + 1) items))
+    (drop (i + 1) items)) =
     ap (λ l. length (listing 0 l)) (sym (take-append-drop (i + 1) items))
     ∙ ap length (listing-append 0 (take (i + 1) items) (drop (i + 1) items))
     ∙ length-append (listing 0 (take (i + 1) items)) (listing (0 + length (take (i + 1) items)) (drop (i + 1) items)) in

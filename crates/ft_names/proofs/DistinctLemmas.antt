@@ -63,7 +63,8 @@ new-word before w none = elim (cases_Bool (is_among before w.text)) [
   | inr new ↦ new
 ]
 
-words-differ : (before : Names) (words : List Word) → AreDistinct before → first_of repeated (namings before words) ≡ None → AreDistinct (before ++ texts words)
+words-differ : (before : Names) (words : List Word) → AreDistinct before → first_of repeated (namings before words) ≡ None
+    → AreDistinct (before ++ texts words)
 words-differ before [] differ none = subst AreDistinct (sym (append-nil before)) differ
 words-differ before (w ∷ words) differ none =
     let parts = or-none (repeated (before, w)) (first_of repeated (namings (before ++ w.text ∷ []) words)) none in
@@ -71,16 +72,20 @@ words-differ before (w ∷ words) differ none =
     (words-differ (before ++ w.text ∷ []) words (distinct-push before w.text differ (new-word before w parts.0)) parts.1)
 
 block-differs : (before : Names) (name : Word) (takes uses shown : List Word) → AreDistinct before
-    → first_of repeated (namings before (name ∷ []) ++ namings [] takes ++ namings [] uses ++ namings (before ++ name.text ∷ []) shown) ≡ None
+    → first_of repeated (namings before (name ∷ []) ++ namings [] takes ++ namings [] uses ++ namings (before
+    ++ name.text ∷ []) shown) ≡ None
     → AreDistinct (before ++ texts (name ∷ shown))
 block-differs before name takes uses shown differ none =
-    let own = or-none (repeated (before, name)) (first_of repeated (namings [] takes ++ namings [] uses ++ namings (before ++ name.text ∷ []) shown)) none in
-    let facts = or-none (first_of repeated (namings [] takes ++ namings [] uses)) (first_of repeated (namings (before ++ name.text ∷ []) shown))
+    let own = or-none (repeated (before, name)) (first_of repeated (namings [] takes ++ namings [] uses ++ namings (before
+    ++ name.text ∷ []) shown)) none in
+    let facts = or-none (first_of repeated (namings [] takes ++ namings [] uses)) (first_of repeated (namings (before
+    ++ name.text ∷ []) shown))
     (sym (first_of-append repeated (namings [] takes ++ namings [] uses) (namings (before ++ name.text ∷ []) shown)) ∙ own.1) in
     subst AreDistinct (append_assoc before (name.text ∷ []) (texts shown))
     (words-differ (before ++ name.text ∷ []) shown (distinct-push before name.text differ (new-word before name own.0)) facts.1)
 
-item-differs : (before : Names) (item : Item) → AreDistinct before → first_of repeated (item_namings before item) ≡ None → AreDistinct (before ++ item_texts item)
+item-differs : (before : Names) (item : Item) → AreDistinct before → first_of repeated (item_namings before item) ≡ None
+    → AreDistinct (before ++ item_texts item)
 item-differs before (Constant name minus value) differ none = words-differ before (name ∷ []) differ none
 item-differs before (RangeType name lo hi) differ none = words-differ before (name ∷ []) differ none
 item-differs before (EnumType name members) differ none = words-differ before (name ∷ members) differ none
@@ -91,7 +96,8 @@ item-differs before (Normal section target columns rows) differ none = words-dif
 item-differs before (Inverted section target headers rows) differ none = words-differ before [] differ none
 item-differs before (Vector section columns rows) differ none = words-differ before [] differ none
 item-differs before (Nat moment cond) differ none = words-differ before [] differ none
-item-differs before (Block name takes uses facts) differ none = block-differs before name takes uses (flat_map fact_words facts) differ none
+item-differs before (Block name takes uses facts) differ none = block-differs before name takes uses
+    (flat_map fact_words facts) differ none
 
 items-differ : (before : Names) (items : List Item) → AreDistinct before → first_of repeated (set_namings before items) ≡ None
     → AreDistinct (before ++ flat_map item_texts items)

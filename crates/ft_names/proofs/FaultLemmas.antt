@@ -18,7 +18,8 @@ pub unknown-stops : (stop : Stop NameFault) (items : List Item) (names : Listing
     → Answers {A = Unit {0}} (Err stop) (name_fault items)
 unknown-stops stop items names enough differ is found =
     subst (Answers {A = Unit {0}} (Err stop))
-    (sym (ap (λ o. option_or o (option_or (duplicate items) (unknown_name items))) enough ∙ ap (λ o. option_or o (unknown_name items)) differ))
+    (sym (ap (λ o. option_or o (option_or (duplicate items) (unknown_name items))) enough
+    ∙ ap (λ o. option_or o (unknown_name items)) differ))
     (subst (λ (list : Listing). Answers {A = Unit {0}} (Err stop) (first_of (unknown_spot (names_in list)) (spots items))) is found)
 
 -- the same answer with want of memory among the faults

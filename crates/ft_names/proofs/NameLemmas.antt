@@ -21,7 +21,8 @@ is_key name key = bytes_eq name key.items
 abbrev pub same_key : Vec ℕ Global → Vec ℕ Global → Bool
 same_key a b = bytes_eq a.items b.items
 
-first-key : (name : List ℕ) (es : Entries) → position_or_len (bytes_eq name) (names_in (shown es)) ≡ position_or_len (is_key name) (keys_of es)
+first-key : (name : List ℕ) (es : Entries) → position_or_len (bytes_eq name) (names_in (shown es))
+    ≡ position_or_len (is_key name) (keys_of es)
 first-key name [] = refl
 first-key name (e ∷ es) = ap (λ (n : ℕ). cond (not (bytes_eq name e.0.items)) (1 + n) 0) (first-key name es)
 
@@ -55,13 +56,15 @@ is_some-place_of names name =
     some-less (position_or_len (bytes_eq name) names) (length names) (position_or_len (bytes_eq name) names) ∙ any-less names name
 
 -- the number at a place of the map
-pub number-at : (es : Entries) (i n : ℕ) → slice_get (values_of es) i ≡ Some n → option_map (λ (entry : List ℕ × ℕ). entry.1) (slice_get (shown es) i) ≡ Some n
+pub number-at : (es : Entries) (i n : ℕ) → slice_get (values_of es) i ≡ Some n
+    → option_map (λ (entry : List ℕ × ℕ). entry.1) (slice_get (shown es) i) ≡ Some n
 number-at [] i n at = cc at
 number-at (e ∷ es) zero n at = at
 number-at (e ∷ es) (suc i) n at = number-at es i n at
 
 -- a name that is not there goes last
-pub goes-last : (name : List ℕ) (es : Entries) (key : Vec ℕ Global) (number : ℕ) → key.items ≡ name → is_among (names_in (shown es)) name ≡ false
+pub goes-last : (name : List ℕ) (es : Entries) (key : Vec ℕ Global) (number : ℕ) → key.items ≡ name
+    → is_among (names_in (shown es)) name ≡ false
     → shown (insert_entry same_key es key number) ≡ shown es ++ (name, number) ∷ []
 goes-last name [] key number is absent = rw is refl
 goes-last name (e ∷ es) key number is absent = elim (cases_Bool (bytes_eq name e.0.items)) [
@@ -80,7 +83,8 @@ place-cases p len false more = rw (less-suc p len, more) refl
 place_of-next : (n : List ℕ) (names : List (List ℕ)) (name : List ℕ) → bytes_eq name n ≡ false
     → place_of (n ∷ names) name ≡ option_map suc (place_of names name)
 place_of-next n names name other =
-    rw other (place-cases (position_or_len (bytes_eq name) names) (length names) (nat_lt (position_or_len (bytes_eq name) names) (length names)) refl)
+    rw other (place-cases (position_or_len (bytes_eq name) names) (length names) (nat_lt (position_or_len (bytes_eq name) names)
+    (length names)) refl)
 
 next-get : {X : Type 0} (x : X) (xs : List X) (place : Option ℕ)
     → option_and_then (slice_get (x ∷ xs)) (option_map suc place) ≡ option_and_then (slice_get xs) place

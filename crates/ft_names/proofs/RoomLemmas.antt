@@ -36,7 +36,8 @@ words-few (Vector section columns rows) lawful = omega arith
 words-few (Nat moment cond) lawful = omega arith
 words-few (Block name takes uses facts) lawful = let few = shown-few facts in omega arith
 
-names-few : (number : ℕ) (items : List Item) → list_all is_item items ≡ true → length (listing number items) ≤ 65 * length items + sum_by facts_of items
+names-few : (number : ℕ) (items : List Item) → list_all is_item items ≡ true
+    → length (listing number items) ≤ 65 * length items + sum_by facts_of items
 unfolding listing
 names-few number [] lawful = omega arith
 names-few number (x ∷ xs) lawful =
@@ -44,7 +45,8 @@ names-few number (x ∷ xs) lawful =
     let here = words-few x parts.0 in
     let rest = names-few (suc number) xs parts.1 in
     let long = length-append (entries number (item_words x)) (listing (suc number) xs) in
-    let one : length (entries number (item_words x)) ≡ length (item_words x) = length-map (item_words x) (λ (w : Word). (w.text, number)) in
+    let one : length (entries number (item_words x)) ≡ length (item_words x) = length-map (item_words x) (λ (w : Word).
+    (w.text, number)) in
     let sum = sum_by-cons facts_of x xs in
     omega arith
 
@@ -56,7 +58,8 @@ abbrev pub one_of : Sort → Sort → ℕ
 one_of sort other = cond (is_same_sort sort other) 1 0
 
 -- an item is of one sort
-one-sort : (s : Sort) → one_of constants s + one_of types s + one_of variables s + one_of memories s + one_of tables s + one_of clauses s + one_of blocks s ≡ 1
+one-sort : (s : Sort) → one_of constants s + one_of types s + one_of variables s + one_of memories s + one_of tables s + one_of clauses s
+    + one_of blocks s ≡ 1
 one-sort constants = refl
 one-sort types = refl
 one-sort variables = refl
@@ -68,7 +71,8 @@ one-sort blocks = refl
 of_sort-cons : (sort : Sort) (x : Item) (xs : List Item) → of_sort sort (x ∷ xs) ≡ one_of sort (sort_of x) + of_sort sort xs
 of_sort-cons sort x xs = sum_by-cons (λ (item : Item). cond (is_same_sort sort (sort_of item)) 1 0) x xs
 
-by-sorts : (items : List Item) → length items ≡ of_sort constants items + of_sort types items + of_sort variables items + of_sort memories items
+by-sorts : (items : List Item) → length items ≡ of_sort constants items + of_sort types items + of_sort variables items + of_sort
+    memories items
     + of_sort tables items + of_sort clauses items + of_sort blocks items
 by-sorts [] = refl
 by-sorts (x ∷ xs) =

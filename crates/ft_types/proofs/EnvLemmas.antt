@@ -8,7 +8,8 @@ use Rattle.ft_names.specs.meaning.Cards.{Env, cards_of, env_of, under}
 use Rattle.ft_names.specs.meaning.First.{Answers, first_of}
 use Rattle.ft_names.specs.meaning.Spots.{Spot, spots}
 
-pub answers-env : {A F : Type 0} (result : Result A (Stop F)) (test : Env → Spot → Option F) (cards : List (List ℕ × Card)) (items given : List Item)
+pub answers-env : {A F : Type 0} (result : Result A (Stop F)) (test : Env → Spot
+    → Option F) (cards : List (List ℕ × Card)) (items given : List Item)
     → cards ≡ cards_of items → given ≡ items → Answers result (first_of (test (under cards)) (spots given))
     → Answers result (first_of (test (env_of items)) (spots items))
 answers-env result test cards items given are same found =

@@ -22,7 +22,8 @@ first_of-append test [] ys = refl
 first_of-append test (x ∷ xs) ys =
     ap (option_or (test x)) (first_of-append test xs ys) ∙ sym (option_or_assoc (test x) (first_of test xs) (first_of test ys))
 
-pub first_of-map : {X Y Z : Type 0} (test : Y → Option Z) (f : X → Y) (xs : List X) → first_of test (map f xs) ≡ first_of (λ x. test (f x)) xs
+pub first_of-map : {X Y Z : Type 0} (test : Y → Option Z) (f : X → Y) (xs : List X)
+    → first_of test (map f xs) ≡ first_of (λ x. test (f x)) xs
 first_of-map test f [] = refl
 first_of-map test f (x ∷ xs) = ap (option_or (test (f x))) (first_of-map test f xs)
 
@@ -48,13 +49,15 @@ pub first_more : {X Y : Type 0} (test : X → Option Y) (xs : List X) (i : ℕ) 
 first_more test xs i x within is none here = first_next test xs i x within is none ∙ here
 
 -- a fault in the front of a list
-pub first_front : {X Y : Type 0} (test : X → Option Y) (xs : List X) (n : ℕ) (y : Y) → first_of test (take n xs) ≡ Some y → first_of test xs ≡ Some y
+pub first_front : {X Y : Type 0} (test : X → Option Y) (xs : List X) (n : ℕ) (y : Y) → first_of test (take n xs) ≡ Some y
+    → first_of test xs ≡ Some y
 first_front test xs n y front =
     ap (first_of test) (sym (take-append-drop n xs)) ∙ first_of-append test (take n xs) (drop n xs)
     ∙ ap (λ o. option_or o (first_of test (drop n xs))) front
 
 -- a loop stops at the first item with a fault, or for want of memory
-pub stops_at : {X F : Type 0} (stop : Stop F) (test : X → Option F) (xs : List X) (i : ℕ) (x : X) → i < length xs → x ≡ slice_index_or xs i x
+pub stops_at : {X F : Type 0} (stop : Stop F) (test : X → Option F) (xs : List X) (i : ℕ) (x : X) → i < length xs
+    → x ≡ slice_index_or xs i x
     → first_of test (take i xs) ≡ None → Answers {A = Unit {0}} (Err stop) (test x) → Answers {A = Unit {0}} (Err stop) (first_of test xs)
 stops_at (Fault fault) test xs i x within is none here = first_front test xs (i + 1) fault (first_next test xs i x within is none ∙ here)
 stops_at NoMemory test xs i x within is none here = tt

@@ -54,24 +54,35 @@ abbrev at_part : {Y : Type 0} → Test Y → Asked × Expr → Option Y
 at_part test part = test part.0 part.1
 
 by_layer : {Y : Type 0} (test : Test Y) (asked : Asked) (e : Expr) (a_layer : Expr-F Expr) → roll-Expr a_layer ≡ e
-    → first_part test asked e ≡ first_of (at_part test) (parts_layer (map-Expr Expr (Expr × PartsAsked) (λ part. (part, parts part)) a_layer) asked)
+    → first_part test asked e ≡ first_of (at_part test) (parts_layer (map-Expr Expr (Expr × PartsAsked) (λ part.
+    (part, parts part)) a_layer) asked)
 unfolding first_part
 by_layer test asked e a_layer rolled = ap (λ (l : PartsAsked). first_of (at_part test) (l asked)) (of_layer e a_layer rolled)
 
-pub first-Num : {Y : Type 0} (test : Test Y) (asked : Asked) (value : ℕ) (place : Place) → first_part test asked (Num value place) ≡ test asked (Num value place)
-first-Num test asked value place = by_layer test asked _ (layer.Num value place) (rolls-Num value place) ∙ option_or-None (test asked (Num value place))
+pub first-Num : {Y : Type 0} (test : Test Y) (asked : Asked) (value : ℕ) (place : Place)
+    → first_part test asked (Num value place) ≡ test asked (Num value place)
+first-Num test asked value place = by_layer test asked _ (layer.Num value place) (rolls-Num value place)
+    ∙ option_or-None (test asked (Num value place))
 
-pub first-Name : {Y : Type 0} (test : Test Y) (asked : Asked) (name : List ℕ) (place : Place) → first_part test asked (Name name place) ≡ test asked (Name name place)
-first-Name test asked name place = by_layer test asked _ (layer.Name name place) (rolls-Name name place) ∙ option_or-None (test asked (Name name place))
+pub first-Name : {Y : Type 0} (test : Test Y) (asked : Asked) (name : List ℕ) (place : Place)
+    → first_part test asked (Name name place) ≡ test asked (Name name place)
+first-Name test asked name place = by_layer test asked _ (layer.Name name place) (rolls-Name name place)
+    ∙ option_or-None (test asked (Name name place))
 
-pub first-Truth : {Y : Type 0} (test : Test Y) (asked : Asked) (value : Bool) (place : Place) → first_part test asked (Truth value place) ≡ test asked (Truth value place)
-first-Truth test asked value place = by_layer test asked _ (layer.Truth value place) (rolls-Truth value place) ∙ option_or-None (test asked (Truth value place))
+pub first-Truth : {Y : Type 0} (test : Test Y) (asked : Asked) (value : Bool) (place : Place)
+    → first_part test asked (Truth value place) ≡ test asked (Truth value place)
+first-Truth test asked value place = by_layer test asked _ (layer.Truth value place) (rolls-Truth value place)
+    ∙ option_or-None (test asked (Truth value place))
 
-pub first-Prev : {Y : Type 0} (test : Test Y) (asked : Asked) (name : List ℕ) (place : Place) → first_part test asked (Prev name place) ≡ test asked (Prev name place)
-first-Prev test asked name place = by_layer test asked _ (layer.Prev name place) (rolls-Prev name place) ∙ option_or-None (test asked (Prev name place))
+pub first-Prev : {Y : Type 0} (test : Test Y) (asked : Asked) (name : List ℕ) (place : Place)
+    → first_part test asked (Prev name place) ≡ test asked (Prev name place)
+first-Prev test asked name place = by_layer test asked _ (layer.Prev name place) (rolls-Prev name place)
+    ∙ option_or-None (test asked (Prev name place))
 
-pub first-Age : {Y : Type 0} (test : Test Y) (asked : Asked) (name : List ℕ) (place : Place) → first_part test asked (Age name place) ≡ test asked (Age name place)
-first-Age test asked name place = by_layer test asked _ (layer.Age name place) (rolls-Age name place) ∙ option_or-None (test asked (Age name place))
+pub first-Age : {Y : Type 0} (test : Test Y) (asked : Asked) (name : List ℕ) (place : Place)
+    → first_part test asked (Age name place) ≡ test asked (Age name place)
+first-Age test asked name place = by_layer test asked _ (layer.Age name place) (rolls-Age name place)
+    ∙ option_or-None (test asked (Age name place))
 
 pub first-Not : {Y : Type 0} (test : Test Y) (asked : Asked) (of : Expr) (place : Place)
     → first_part test asked (Not of place) ≡ option_or (test asked (Not of place)) (first_part test Condition of)
@@ -85,7 +96,8 @@ first-Neg test asked of place = by_layer test asked _ (layer.Neg of place) (roll
 
 pub first-Two : {Y : Type 0} (test : Test Y) (asked : Asked) (op : Op) (left right : Expr) (place : Place)
     → first_part test asked (Two op left right place)
-    ≡ option_or (first_part test (operands op) left) (option_or (test asked (Two op left right place)) (first_part test (operands op) right))
+    ≡ option_or (first_part test (operands op) left) (option_or (test asked (Two op left right place)) (first_part test
+    (operands op) right))
 unfolding first_part
 first-Two test asked op left right place =
     by_layer test asked _ (layer.Two op left right place) (rolls-Two op left right place)

@@ -20,7 +20,8 @@ abbrev pub namings : List (List ℕ) → List Word → List Naming
 namings before [] = []
 namings before (word ∷ words) = (before, word) ∷ namings (before ++ word.text ∷ []) words
 
--- The words of an item that must be new, in the order of its text. After `takes`, and after `uses`, a word must differ from the others there alone.
+-- The words of an item that must be new, in the order of its text. After `takes`, and after `uses`, a word must differ from the others
+-- there alone.
 abbrev pub item_namings : List (List ℕ) → Item → List Naming
 item_namings before (Constant name sign value) = namings before (name ∷ [])
 item_namings before (RangeType name lo hi) = namings before (name ∷ [])

@@ -17,7 +17,8 @@ loop-position-preserved c =
 
 pub returns : goal.returns
 returns c =
-    let end : c.loop-position.position ≡ length c.args.facts.now = omega (arith, c.loop-position-test.false, c.loop-position.auto.position-end) in
+    let end : c.loop-position.position ≡ length c.args.facts.now = omega
+    (arith, c.loop-position-test.false, c.loop-position.auto.position-end) in
     c.loop-position.invariant
     ∙ ap (λ (list : List Card). c.args.list.now ++ list)
     (ap (invariant_cards c.args.block c.args.facts.now) end ∙ facts-all c.args.block c.args.facts.now)

@@ -14,7 +14,8 @@ loop-position-preserved c =
 
 pub returns : goal.returns
 returns c =
-    let end : c.loop-position.position ≡ length c.args.members.now = omega (arith, c.loop-position-test.false, c.loop-position.auto.position-end) in
+    let end : c.loop-position.position ≡ length c.args.members.now = omega
+    (arith, c.loop-position-test.false, c.loop-position.auto.position-end) in
     c.loop-position.invariant
     ∙ ap (λ (list : List Card). c.args.list.now ++ list)
     (ap (member_cards c.args.item c.args.members.now) end ∙ members-all c.args.item c.args.members.now)

@@ -13,8 +13,10 @@ loop-number-preserved c =
     let i = c.loop-number.number in
     record {
       made = c.in_ok-add_item.ensures
-          ∙ ap (λ (list : List Card). list ++ cards_in (item_cards c.args.items.now i c.index-items-number.result)) c.loop-number.invariant.made
+          ∙ ap (λ (list : List Card). list ++ cards_in (item_cards c.args.items.now i c.index-items-number.result))
+          c.loop-number.invariant.made
           ∙ sym (cards-next c.args.items.now i c.index-items-number.result c.loop-number-test.true c.index-items-number.is);
-      counted = counted-next c.args.items.now i c.index-items-number.result c.loop-number.counts c.after-counts.result c.loop-number-test.true
+      counted = counted-next c.args.items.now i c.index-items-number.result c.loop-number.counts c.after-counts.result
+          c.loop-number-test.true
           c.index-items-number.is c.loop-number.invariant.counted c.after-counts.ensures;
     }

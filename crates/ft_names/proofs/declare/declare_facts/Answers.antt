@@ -7,9 +7,12 @@ use Rattle.ft_names.proofs.declare.declare_facts.Goals as goal
 pub declare_fact-requires : goal.declare_fact-requires
 declare_fact-requires c =
     let i = c.loop-fact.fact-index in
-    declared-room c.args.names.now c.loop-fact.names c.args.number (flat_map fact_words (take i c.args.facts.now)) (fact_words c.fact-item.result)
-    (flat_map fact_words (take (i + 1) c.args.facts.now)) (flat_map fact_words (drop (i + 1) c.args.facts.now)) (flat_map fact_words c.args.facts.now)
-    (flat-next fact_words c.args.facts.now i c.fact-item.result c.loop-fact-test.true c.fact-item.is) (flat-whole fact_words c.args.facts.now (i + 1))
+    declared-room c.args.names.now c.loop-fact.names c.args.number (flat_map fact_words (take i c.args.facts.now))
+    (fact_words c.fact-item.result)
+    (flat_map fact_words (take (i + 1) c.args.facts.now)) (flat_map fact_words (drop (i + 1) c.args.facts.now))
+    (flat_map fact_words c.args.facts.now)
+    (flat-next fact_words c.args.facts.now i c.fact-item.result c.loop-fact-test.true c.fact-item.is)
+    (flat-whole fact_words c.args.facts.now (i + 1))
     c.loop-fact.invariant.made c.requires
 
 pub returns-in_err-declare_fact-clause-answers : goal.returns-in_err-declare_fact-clause-answers
@@ -19,8 +22,10 @@ returns-in_err-declare_fact-clause-answers c =
     rw (p.1, p.2)
     (declared-stops c.in_err-declare_fact.field-0.0 c.args.names.now c.loop-fact.names c.args.number
     (flat_map fact_words (take i c.args.facts.now)) (fact_words c.fact-item.result)
-    (flat_map fact_words (take (i + 1) c.args.facts.now)) (flat_map fact_words (drop (i + 1) c.args.facts.now)) (flat_map fact_words c.args.facts.now)
-    (flat-next fact_words c.args.facts.now i c.fact-item.result c.loop-fact-test.true c.fact-item.is) (flat-whole fact_words c.args.facts.now (i + 1))
+    (flat_map fact_words (take (i + 1) c.args.facts.now)) (flat_map fact_words (drop (i + 1) c.args.facts.now))
+    (flat_map fact_words c.args.facts.now)
+    (flat-next fact_words c.args.facts.now i c.fact-item.result c.loop-fact-test.true c.fact-item.is)
+    (flat-whole fact_words c.args.facts.now (i + 1))
     c.loop-fact.invariant.made c.loop-fact.invariant.none c.in_err-declare_fact.ensures.answers)
 
 pub loop-fact-preserved : goal.loop-fact-preserved

@@ -16,14 +16,17 @@ pub returns-in_err-declare_item-clause-answers : goal.returns-in_err-declare_ite
 returns-in_err-declare_item-clause-answers c =
     let p = err_from_is_err_and c.from_residual.result c.from_residual.ensures.1 in
     rw (p.1, p.2)
-    (item_repeat-stops c.in_err-declare_item.field-0.0 c.args.items.now c.loop-number.number c.index-items-number.result c.loop-number.names
-    c.loop-number-test.true c.index-items-number.is c.loop-number.invariant.made c.loop-number.invariant.none c.in_err-declare_item.ensures.answers)
+    (item_repeat-stops c.in_err-declare_item.field-0.0 c.args.items.now c.loop-number.number c.index-items-number.result
+    c.loop-number.names
+    c.loop-number-test.true c.index-items-number.is c.loop-number.invariant.made c.loop-number.invariant.none
+    c.in_err-declare_item.ensures.answers)
 
 pub loop-number-preserved : goal.loop-number-preserved
 loop-number-preserved c = record {
   made = c.in_ok-declare_item.ensures.added
       ∙ ap (λ (list : Listing). list ++ entries c.loop-number.number (item_words c.index-items-number.result)) c.loop-number.invariant.made
-      ∙ sym (listing-next c.args.items.now c.loop-number.number c.index-items-number.result c.loop-number-test.true c.index-items-number.is);
+      ∙ sym (listing-next c.args.items.now c.loop-number.number c.index-items-number.result c.loop-number-test.true
+      c.index-items-number.is);
   none = item_repeat-none c.args.items.now c.loop-number.number c.index-items-number.result c.loop-number.names c.loop-number-test.true
       c.index-items-number.is c.loop-number.invariant.made c.loop-number.invariant.none c.in_ok-declare_item.ensures.answers;
 }

@@ -14,4 +14,5 @@ pub returns-in_err-resolve_items-clause-answers : goal.returns-in_err-resolve_it
 returns-in_err-resolve_items-clause-answers c =
     let p = err_from_is_err_and c.from_residual.result c.from_residual.ensures.1 in
     rw (p.1, p.2)
-    (answers-stopped c.in_err-resolve_items.field-0.0 (name_fault c.args.tree.now.items) (rw c.as_slice.ensures at c.in_err-resolve_items.ensures.answers))
+    (answers-stopped c.in_err-resolve_items.field-0.0 (name_fault c.args.tree.now.items)
+    (rw c.as_slice.ensures at c.in_err-resolve_items.ensures.answers))

@@ -7,7 +7,8 @@ pub returns-in_err-condition : goal.returns-in_err-condition
 returns-in_err-condition g c =
     let p = err_from_is_err_and c.from_residual.result c.from_residual.ensures.1 in
     rw (p.1, p.2)
-    (stops_at c.in_err-condition.field-0.0 (λ x. g.J.Judge.test c.args.judge.now (condition c.args.site x)) c.args.exprs.now c.loop-expr.expr-index c.expr-item.result
+    (stops_at c.in_err-condition.field-0.0 (λ x. g.J.Judge.test c.args.judge.now
+    (condition c.args.site x)) c.args.exprs.now c.loop-expr.expr-index c.expr-item.result
     c.loop-expr-test.true c.expr-item.is c.loop-expr.invariant c.in_err-condition.ensures)
 
 pub loop-expr-preserved : goal.loop-expr-preserved

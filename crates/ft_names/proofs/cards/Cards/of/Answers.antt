@@ -11,8 +11,10 @@ card_list-requires-clause-few c = rw c.as_slice.ensures (few-items c.args.tree.n
 
 pub invariant_of-result : goal.invariant_of-result
 invariant_of-result c =
-    carded-length c.args.tree.now.items c.args.names c.in_ok-list.list c.requires (c.in_ok-list.ensures ∙ ap (λ (items : List Item). cards_in (cards_of items)) c.as_slice.ensures)
+    carded-length c.args.tree.now.items c.args.names c.in_ok-list.list c.requires (c.in_ok-list.ensures
+    ∙ ap (λ (items : List Item). cards_in (cards_of items)) c.as_slice.ensures)
 
 pub returns : goal.returns
 returns c =
-    carded-items c.args.tree.now.items c.args.names c.in_ok-list.list c.requires (c.in_ok-list.ensures ∙ ap (λ (items : List Item). cards_in (cards_of items)) c.as_slice.ensures)
+    carded-items c.args.tree.now.items c.args.names c.in_ok-list.list c.requires (c.in_ok-list.ensures
+    ∙ ap (λ (items : List Item). cards_in (cards_of items)) c.as_slice.ensures)
