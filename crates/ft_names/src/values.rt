@@ -2,8 +2,7 @@ ghost use Rattle.std.specs.Prelude.{◌≡◌, ◌≤◌, ◌<◌, ◌^◌, IsTr
 ghost use Rattle.std.specs.List.{list_all};
 ghost use Rattle.ft_tree.specs.Limits.{is_bound, is_item, is_kind};
 ghost use Rattle.ft_names.specs.meaning.Declared.{listing};
-ghost use Rattle.ft_names.specs.meaning.Cards.{bound_value, constant_value, declared_values, enum_values, kind_values, number_of, plain_value, range_values, signed, values_at};
-ghost use Rattle.ft_names.specs.naming.Counting.{is_small};
+ghost use Rattle.ft_names.specs.meaning.Cards.{bound_value, constant_value, declared_values, enum_values, is_small, kind_values, number_of, plain_value, range_values, signed, values_at};
 
 use crate::card::Values;
 use crate::names::Names;

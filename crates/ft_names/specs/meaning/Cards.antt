@@ -11,6 +11,7 @@ use Rattle.ft_tree.specs.declared.item.FactItem.{FactItem}
 use Rattle.ft_tree.specs.declared.item.FactItem.TheVariants.{Shows, Goal}
 use Rattle.ft_tree.specs.declared.item.Item.{Item}
 use Rattle.ft_tree.specs.declared.item.Item.TheVariants as item
+use Rattle.ft_tree.specs.Limits.{is_number}
 use Rattle.ft_names.specs.declared.card.Card.{Card}
 use Rattle.ft_names.specs.declared.card.Card.TheVariants.{Constant, TypeName, Member, Variable, Memory, Block, Invariant}
 use Rattle.ft_names.specs.declared.card.Values.{Values}
@@ -37,6 +38,12 @@ signed false z = z
 abbrev pub constant_value : Option Item → ℤ
 constant_value (Some (item.Constant name minus value)) = signed minus (pos value.value)
 constant_value _ = pos 0
+
+-- as in each tree: a number in a bound, a hold or an `init` is at most 10^9
+abbrev pub is_small : Plain → Bool
+is_small (plain.Number value) = is_number value
+is_small (plain.Name name) = true
+is_small (plain.Truth value) = true
 
 abbrev pub plain_value : List Item → Plain → ℤ
 plain_value items (plain.Number value) = pos value

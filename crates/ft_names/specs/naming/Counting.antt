@@ -1,18 +1,9 @@
 -- What the list of the cards is made by.
-use Rattle.std.specs.Prelude.{ℕ, ◌+◌, Bool, true, List, map, if◌then◌else◌}
-use Rattle.ft_tree.specs.declared.item.Plain.{Plain}
-use Rattle.ft_tree.specs.declared.item.Plain.TheVariants as plain
+use Rattle.std.specs.Prelude.{ℕ, ◌+◌, Bool, List, map, if◌then◌else◌}
 use Rattle.ft_tree.specs.declared.item.Item.{Item}
-use Rattle.ft_tree.specs.Limits.{is_number}
 use Rattle.ft_names.specs.declared.card.Card.{Card}
 use Rattle.ft_names.specs.declared.counts.Counts.{Counts}
 use Rattle.ft_names.specs.meaning.Cards.{count_before, declares_block, declares_memory, declares_variable}
-
--- a number in a bound is at most 10^9
-abbrev pub is_small : Plain → Bool
-is_small (plain.Number value) = is_number value
-is_small (plain.Name name) = true
-is_small (plain.Truth value) = true
 
 -- the cards beside names
 abbrev pub cards_in : List (List ℕ × Card) → List Card
