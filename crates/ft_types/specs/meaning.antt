@@ -2,4 +2,6 @@
 pub mod Kinds
 pub mod Mismatch
 pub mod PlaceFaults
+pub mod Ranges
+pub mod Shapes
 pub mod Sides

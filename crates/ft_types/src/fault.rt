@@ -1,4 +1,8 @@
+ghost use Rattle.ft_names.specs.meaning.First.{Answers};
+ghost use Rattle.ft_types.specs.meaning.Ranges.{unless};
+
 use ft_base::{Place, Text};
+use ft_names::Stop;
 
 /// Why a tree spells no set.
 #[derive(Drop)]
@@ -8,4 +12,23 @@ pub enum TypeFault {
     WrongSide { name: Text, place: Place },
     /// An expression or a name is of the wrong kind.
     TypeMismatch { place: Place },
+    /// A lower bound is above the upper one, or a number is out of its range.
+    BadRange { place: Place },
+    /// A hold is out of its range.
+    BadHold { place: Place },
+    /// The lower bound of a band isn't below the upper one.
+    BadBand { place: Place },
+    /// A row has not as many entries as the header.
+    Shape { title: Text, place: Place },
+}
+
+// The fault, unless all is right.
+pub(crate) fn unless(right: bool, fault: TypeFault) -> Result<(), Stop<TypeFault>>
+    ensures { Answers result (unless right fault) }
+{
+    if right {
+        Ok(())
+    } else {
+        Err(Stop::Fault(fault))
+    }
 }

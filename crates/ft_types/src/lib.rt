@@ -1,15 +1,21 @@
 //! The first place of a tree where something stands that may not be read there, or that is of the wrong kind.
 #![tactic(auto)]
 
+mod examine;
 mod fault;
 mod judging;
 mod kinds;
 mod mismatch;
 mod mismatches;
+mod ranges;
 mod reading;
+mod shapes;
 mod sides;
 
+pub use examine::{Examine, examine_items};
 pub use fault::TypeFault;
-pub use judging::{judge_kinds, judge_sides};
+pub use judging::{judge_bands, judge_holds, judge_kinds, judge_ranges, judge_shapes, judge_sides};
 pub use mismatch::Mismatches;
+pub use ranges::{Bands, Holds, Ranges, set_range};
+pub use shapes::Shapes;
 pub use sides::Sides;
