@@ -15,6 +15,7 @@ pub trait Inspect {
     /// The fault of a part, with what its place asks of it.
     ghost test: { Self → Asked → Expr → Option Self.Fault };
 
+    /// One part, with what its place asks of it.
     fn part(&self, asked: Asked, expr: &Expr) -> Result<(), Stop<Self::Fault>>
         ensures { Answers result (test self.now asked expr.now) };
 }

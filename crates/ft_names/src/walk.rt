@@ -38,21 +38,27 @@ pub trait Judge {
     /// The fault of what stands at a place.
     ghost test: { Self → Spot → Option Self.Fault };
 
+    /// A name that is used outside expressions, bounds and `init` values.
     fn named(&self, role: Role, word: &Word) -> Result<(), Stop<Self::Fault>>
         ensures { Answers result (test self.now (named role word.now)) };
 
+    /// A bound or a hold.
     fn bound(&self, value: &Bound) -> Result<(), Stop<Self::Fault>>
         ensures { Answers result (test self.now (bound value.now)) };
 
+    /// An `init` value, with its variable's type.
     fn initial(&self, of: &Kind, value: &Bound) -> Result<(), Stop<Self::Fault>>
         ensures { Answers result (test self.now (initial of.now value.now)) };
 
+    /// An expression that has to be a condition.
     fn condition(&self, site: Site, expr: &Expr) -> Result<(), Stop<Self::Fault>>
         ensures { Answers result (test self.now (condition site expr.now)) };
 
+    /// The term of a `hyst`, which has to be a number.
     fn number(&self, site: Site, expr: &Expr) -> Result<(), Stop<Self::Fault>>
         ensures { Answers result (test self.now (number site expr.now)) };
 
+    /// A term for the variable of this name.
     fn term_for(&self, site: Site, word: &Word, expr: &Expr) -> Result<(), Stop<Self::Fault>>
         ensures { Answers result (test self.now (term_for site word.now expr.now)) };
 }

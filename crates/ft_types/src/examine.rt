@@ -17,6 +17,7 @@ pub trait Examine {
     /// What the test goes by is what it has to be.
     ghost ready: { Self → Type 0 };
 
+    /// One item.
     fn item(&self, item: &Item) -> Result<(), Stop<TypeFault>>
         requires ready { ready self.now }
         requires lawful { IsTrue (is_item item.now) }
