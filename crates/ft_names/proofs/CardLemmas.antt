@@ -24,7 +24,8 @@ use Rattle.ft_names.specs.declared.counts.Counts.{Counts}
 use Rattle.ft_names.specs.meaning.Declared.{Listing, entries, fact_words, item_words, listing, names_in}
 use Rattle.ft_names.specs.meaning.Cards.{count_before, cards_from, cards_of, fact_cards, declares_block, declares_memory, declares_variable, item_cards, member_card}
 use Rattle.ft_names.specs.naming.Counting.{cards_in, counted, counts_before, one_more}
-use Rattle.ft_names.proofs.DeclareLemmas.{at-place, names_in-append, take-next}
+use Rattle.ft_names.specs.laws.Lists.{take_next}
+use Rattle.ft_names.proofs.DeclareLemmas.{at-place, names_in-append}
 use Rattle.ft_names.proofs.NameLemmas.{zip-parts}
 
 abbrev pub Carded : Type 0
@@ -167,7 +168,7 @@ no-cards all = refl
 pub cards-next : (items : List Item) (i : ℕ) (x : Item) → i < length items → x ≡ slice_index_or items i x
     → cards_in (cards_from items 0 (take (i + 1) items)) ≡ cards_in (cards_from items 0 (take i items)) ++ cards_in (item_cards items i x)
 cards-next items i x within is =
-    ap cards_in (ap (cards_from items 0) (take-next items i x within is) ∙ cards-append items 0 (take i items) (x ∷ [])
+    ap cards_in (ap (cards_from items 0) (take_next items i x within is) ∙ cards-append items 0 (take i items) (x ∷ [])
     ∙ ap (λ n. cards_from items 0 (take i items) ++ cards_from items n (x ∷ [])) (at-place i items within)
     ∙ ap (λ (list : Carded). cards_from items 0 (take i items) ++ list) (cards-one items i x))
     ∙ cards_in-append (cards_from items 0 (take i items)) (item_cards items i x)

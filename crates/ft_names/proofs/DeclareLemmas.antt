@@ -3,8 +3,7 @@ use Rattle.std.proofs.Common.{◌≡◌, ◌∙◌, sym, ap, refl, Some, ℕ, su
 use Rattle.std.specs.Prelude.{Err, slice_index_or}
 use Rattle.std.specs.List.{flat_map}
 use Rattle.std.specs.Option.{option_or}
-use Rattle.std.proofs.lemmas.Grind.{flat_map-append}
-use Rattle.std.proofs.lemmas.List.{take_more, take-append-drop, map-append, length-map, length-take-le}
+use Rattle.std.proofs.lemmas.List.{take-append-drop, map-append, length-map, length-take-le}
 use Rattle.ft_tree.specs.declared.item.Word.{Word}
 use Rattle.ft_tree.specs.declared.item.Item.{Item}
 use Rattle.ft_names.specs.declared.stop.Stop.{Stop}
@@ -13,6 +12,7 @@ use Rattle.ft_names.specs.declared.fault.NameFault.{NameFault}
 use Rattle.ft_names.specs.meaning.First.{Answers, first_of}
 use Rattle.ft_names.specs.meaning.Declared.{Listing, entries, item_words, listing, names_in}
 use Rattle.ft_names.specs.meaning.Duplicates.{item_namings, namings, repeated, set_namings, texts}
+use Rattle.ft_names.specs.laws.Lists.{take_next}
 use Rattle.ft_names.specs.laws.First.{first_of-append, option_or-None}
 
 pub names_in-append : (a b : Listing) → names_in (a ++ b) ≡ names_in a ++ names_in b
@@ -84,20 +84,6 @@ declared-room old mid number front here more rest all is whole made room =
     let more_length : length more ≡ length front + length here = ap length is ∙ length-append front here in
     omega arith
 
--- the list as a loop comes to an item
-pub take-next : {X : Type 0} (xs : List X) (i : ℕ) (x : X) → i < length xs → x ≡ slice_index_or xs i x
-    → take (i + 1) xs ≡ take i xs ++ x ∷ []
-take-next xs i x within is = take_more xs i x within ∙ ap (λ y. take i xs ++ y ∷ []) (sym is)
-
-pub flat-next : {X Y : Type 0} (f : X → List Y) (xs : List X) (i : ℕ) (x : X) → i < length xs → x ≡ slice_index_or xs i x
-    → flat_map f (take (i + 1) xs) ≡ flat_map f (take i xs) ++ f x
-flat-next f xs i x within is =
-    ap (flat_map f) (take-next xs i x within is) ∙ flat_map-append f (take i xs) (x ∷ [])
-    ∙ ap (λ l. flat_map f (take i xs) ++ l) (append-nil (f x))
-
-pub flat-whole : {X Y : Type 0} (f : X → List Y) (xs : List X) (n : ℕ) → flat_map f xs ≡ flat_map f (take n xs) ++ flat_map f (drop n xs)
-flat-whole f xs n = ap (flat_map f) (sym (take-append-drop n xs)) ∙ flat_map-append f (take n xs) (drop n xs)
-
 -- item after item
 
 abbrev pub item_texts : Item → List (List ℕ)
@@ -147,7 +133,7 @@ at-place i items within = let taken : length (take i items) ≡ i = length-take-
 pub listing-next : (items : List Item) (i : ℕ) (x : Item) → i < length items → x ≡ slice_index_or items i x
     → listing 0 (take (i + 1) items) ≡ listing 0 (take i items) ++ entries i (item_words x)
 listing-next items i x within is =
-    ap (listing 0) (take-next items i x within is) ∙ listing-append 0 (take i items) (x ∷ [])
+    ap (listing 0) (take_next items i x within is) ∙ listing-append 0 (take i items) (x ∷ [])
     ∙ ap (λ n. listing 0 (take i items) ++ listing n (x ∷ [])) (at-place i items within)
     ∙ ap (λ (list : Listing). listing 0 (take i items) ++ list) (listing-one i x)
 
@@ -155,7 +141,7 @@ item_repeat-next : (items : List Item) (i : ℕ) (x : Item) (names : Listing) �
     → names ≡ listing 0 (take i items) → item_repeat (take i items) ≡ None
     → item_repeat (take (i + 1) items) ≡ first_of repeated (item_namings (names_in names) x)
 item_repeat-next items i x names within is made none =
-    ap item_repeat (take-next items i x within is) ∙ ap (first_of repeated) (set_namings-append [] (take i items) (x ∷ []))
+    ap item_repeat (take_next items i x within is) ∙ ap (first_of repeated) (set_namings-append [] (take i items) (x ∷ []))
     ∙ first_of-append repeated (set_namings [] (take i items)) (set_namings (flat_map item_texts (take i items)) (x ∷ []))
     ∙ ap (λ o. option_or o (first_of repeated (set_namings (flat_map item_texts (take i items)) (x ∷ [])))) none
     ∙ ap (first_of repeated) (set_namings-one (flat_map item_texts (take i items)) x)

@@ -87,7 +87,7 @@ by-sorts (x ∷ xs) =
     let g = of_sort-cons blocks x xs in
     omega arith
 
-items-few : (tree : Tree) → length tree.items ≤ 1800
+pub items-few : (tree : Tree) → length tree.items ≤ 1800
 items-few tree =
     let counts = tree.lawful.counts in
     let a = counts constants in

@@ -24,7 +24,7 @@ pub use card::{Card, Values};
 pub use cards::Cards;
 pub use fault::NameFault;
 pub use inspect::{Inspect, inspect_parts};
-pub use law::names_differ;
+pub use law::{few_items, names_differ};
 pub use names::Names;
 pub use resolving::resolve;
 pub use site::Site;

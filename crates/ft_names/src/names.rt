@@ -28,8 +28,8 @@ impl Model for Names {
 }
 
 impl Names {
-    // No name. It takes no memory.
-    pub(crate) fn new(alloc: Global) -> Names
+    /// No name. It takes no memory.
+    pub fn new(alloc: Global) -> Names
         ensures { result ≡ [] }
     {
         Names {
@@ -72,9 +72,9 @@ impl Names {
         }
     }
 
-    // Adds a name at the end, unless it is there already, and answers whether it was new. Where memory is refused the
-    // names stay as they were.
-    pub(crate) fn add(&mut self, alloc: Global, name: &[u8], item: u32) -> Result<bool, NoMemory>
+    /// Adds a name at the end, unless it is there already, and answers whether it was new. Where memory is refused the
+    /// names stay as they were.
+    pub fn add(&mut self, alloc: Global, name: &[u8], item: u32) -> Result<bool, NoMemory>
         requires { length self.old + 1 < 2 ^ 32 }
         ensures added { IfOk result (λ new. MatchBool new (self.new ≡ self.old ++ (name.now, item) ∷ []) (self.new ≡ self.old)) }
         ensures new { IfOk result (λ new. is_among (names_in self.old) name.now ≡ not new) }

@@ -1,1 +1,2 @@
+pub mod gathering
 pub mod meaning

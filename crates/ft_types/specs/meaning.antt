@@ -5,3 +5,4 @@ pub mod PlaceFaults
 pub mod Ranges
 pub mod Shapes
 pub mod Sides
+pub mod Targets

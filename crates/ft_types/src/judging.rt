@@ -5,14 +5,17 @@ ghost use Rattle.ft_names.specs.meaning.First.{Answers, first_of};
 ghost use Rattle.ft_types.specs.meaning.PlaceFaults.{first_mismatch, first_wrong_side};
 ghost use Rattle.ft_types.specs.meaning.Ranges.{first_bad_range, item_band, item_hold};
 ghost use Rattle.ft_types.specs.meaning.Shapes.{item_shape};
+ghost use Rattle.ft_types.specs.meaning.Targets.{first_table_fault};
 
 use crate::examine::examine_items;
 use crate::fault::TypeFault;
+use crate::gathering::gather_set;
+use crate::lacking::{Lacks, found};
 use crate::mismatch::Mismatches;
 use crate::ranges::{Bands, Holds, Ranges, set_range};
 use crate::shapes::Shapes;
 use crate::sides::Sides;
-use ft_names::{Cards, Names, Stop, judge_set};
+use ft_names::{Cards, Names, Stop, few_items, judge_set};
 use ft_tree::Tree;
 use std::alloc::Global;
 
@@ -67,4 +70,21 @@ pub fn judge_shapes(alloc: Global, tree: &Tree) -> Result<(), Stop<TypeFault>>
     ensures { Answers result (first_of item_shape tree.now.items) }
 {
     examine_items(&Shapes { alloc }, tree.items.as_slice())
+}
+
+/// Looks for the first variable of a tree that lacks a table, and where there is none for the first that a section defines a
+/// second time.
+pub fn judge_tables(alloc: Global, tree: &Tree) -> Result<(), Stop<TypeFault>>
+    ensures { Answers result (first_table_fault tree.now.items) }
+{
+    few_items();
+    let items = tree.items.as_slice();
+    let gathered = gather_set(alloc, items)?;
+    let lacks = Lacks {
+        alloc,
+        titles: &gathered.titles,
+        items,
+    };
+    examine_items(&lacks, items)?;
+    found(gathered.second)
 }

@@ -3,8 +3,10 @@
 
 mod examine;
 mod fault;
+mod gathering;
 mod judging;
 mod kinds;
+mod lacking;
 mod mismatch;
 mod mismatches;
 mod ranges;

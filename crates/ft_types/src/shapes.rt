@@ -20,8 +20,8 @@ fn section_name(section: SectionWord) -> &'static [u8]
     }
 }
 
-// A table's title.
-fn title(alloc: Global, section: SectionWord, name: &[u8]) -> Result<Text, NoMemory>
+/// A table's title.
+pub fn title(alloc: Global, section: SectionWord, name: &[u8]) -> Result<Text, NoMemory>
     ensures { IfOk result (λ text. text ≡ title section name.now) }
 {
     let mut text = List::copy_of(alloc, section_name(section))?;

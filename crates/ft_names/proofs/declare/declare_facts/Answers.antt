@@ -1,7 +1,8 @@
 use Rattle.std.proofs.Common.{◌+◌, take, drop, flat_map}
 use Rattle.std.proofs.lemmas.Result.{err_from_is_err_and}
 use Rattle.ft_names.specs.meaning.Declared.{fact_words}
-use Rattle.ft_names.proofs.DeclareLemmas.{declared-made, declared-none, declared-room, declared-stops, flat-next, flat-whole}
+use Rattle.ft_names.specs.laws.Lists.{flat_next, flat_whole}
+use Rattle.ft_names.proofs.DeclareLemmas.{declared-made, declared-none, declared-room, declared-stops}
 use Rattle.ft_names.proofs.declare.declare_facts.Goals as goal
 
 pub declare_fact-requires : goal.declare_fact-requires
@@ -11,8 +12,8 @@ declare_fact-requires c =
     (fact_words c.fact-item.result)
     (flat_map fact_words (take (i + 1) c.args.facts.now)) (flat_map fact_words (drop (i + 1) c.args.facts.now))
     (flat_map fact_words c.args.facts.now)
-    (flat-next fact_words c.args.facts.now i c.fact-item.result c.loop-fact-test.true c.fact-item.is)
-    (flat-whole fact_words c.args.facts.now (i + 1))
+    (flat_next fact_words c.args.facts.now i c.fact-item.result c.loop-fact-test.true c.fact-item.is)
+    (flat_whole fact_words c.args.facts.now (i + 1))
     c.loop-fact.invariant.made c.requires
 
 pub returns-in_err-declare_fact-clause-answers : goal.returns-in_err-declare_fact-clause-answers
@@ -24,14 +25,14 @@ returns-in_err-declare_fact-clause-answers c =
     (flat_map fact_words (take i c.args.facts.now)) (fact_words c.fact-item.result)
     (flat_map fact_words (take (i + 1) c.args.facts.now)) (flat_map fact_words (drop (i + 1) c.args.facts.now))
     (flat_map fact_words c.args.facts.now)
-    (flat-next fact_words c.args.facts.now i c.fact-item.result c.loop-fact-test.true c.fact-item.is)
-    (flat-whole fact_words c.args.facts.now (i + 1))
+    (flat_next fact_words c.args.facts.now i c.fact-item.result c.loop-fact-test.true c.fact-item.is)
+    (flat_whole fact_words c.args.facts.now (i + 1))
     c.loop-fact.invariant.made c.loop-fact.invariant.none c.in_err-declare_fact.ensures.answers)
 
 pub loop-fact-preserved : goal.loop-fact-preserved
 loop-fact-preserved c =
     let i = c.loop-fact.fact-index in
-    let next = flat-next fact_words c.args.facts.now i c.fact-item.result c.loop-fact-test.true c.fact-item.is in
+    let next = flat_next fact_words c.args.facts.now i c.fact-item.result c.loop-fact-test.true c.fact-item.is in
     record {
       made = declared-made c.args.names.now c.loop-fact.names c.declare_fact.new.names c.args.number
           (flat_map fact_words (take i c.args.facts.now)) (fact_words c.fact-item.result)
