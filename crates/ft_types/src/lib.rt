@@ -1,4 +1,4 @@
-//! The first place of a tree where something stands that may not be read there, or that is of the wrong kind.
+//! The first fault of a tree of each kind that comes after names and before circles, but for terms that are not linear.
 #![tactic(auto)]
 
 mod examine;
@@ -16,7 +16,9 @@ mod sides;
 
 pub use examine::{Examine, examine_items};
 pub use fault::TypeFault;
-pub use judging::{judge_bands, judge_holds, judge_kinds, judge_ranges, judge_shapes, judge_sides};
+pub use judging::{
+    judge_bands, judge_holds, judge_kinds, judge_ranges, judge_shapes, judge_sides, judge_tables,
+};
 pub use mismatch::Mismatches;
 pub use ranges::{Bands, Holds, Ranges, set_range};
 pub use shapes::Shapes;

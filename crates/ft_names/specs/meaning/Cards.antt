@@ -108,16 +108,10 @@ item_cards all k (item.Constant name minus value) = (name.text, Constant (signed
 item_cards all k (item.RangeType name lo hi) = (name.text, TypeName (range_values all lo hi)) ∷ []
 item_cards all k (item.EnumType name members) =
     (name.text, TypeName (Members k (length members))) ∷ map (member_card k) (enumerate_from 0 members)
-item_cards all k (item.Variable word name of init) = (
-  name.text,
-  Variable (count_before declares_variable all k) word
-      (kind_values all of),
-) ∷ []
-item_cards all k (item.Held side name cond hold) = (
-  name.text,
-  Memory (count_before declares_memory all k) side (Some
-      (bound_value all hold)),
-) ∷ []
+item_cards all k (item.Variable word name of init) =
+    (name.text, Variable (count_before declares_variable all k) word (kind_values all of)) ∷ []
+item_cards all k (item.Held side name cond hold) =
+    (name.text, Memory (count_before declares_memory all k) side (Some (bound_value all hold))) ∷ []
 item_cards all k (item.Hyst side name term lo hi start) = (name.text, Memory (count_before declares_memory all k) side None) ∷ []
 item_cards all k (item.Normal section target columns rows) = []
 item_cards all k (item.Inverted section target headers rows) = []
