@@ -1,0 +1,7 @@
+use Rattle.std.proofs.Common.{◌≡◌, take, None}
+use Rattle.ft_names.specs.meaning.First.{first_of}
+use Rattle.ft_names.specs.meaning.Spots.{condition}
+use Rattle.ft_names.proofs.walk.judge_conditions.Given as goal
+
+abbrev pub invariant-loop-expr : goal.invariant-loop-expr
+invariant-loop-expr g l = first_of (λ x. g.J.Judge.test l.judge (condition l.site x)) (take l.expr-index l.exprs) ≡ None

@@ -1,0 +1,8 @@
+use Rattle.std.proofs.Common.{◌≡◌, take, None}
+use Rattle.ft_names.specs.meaning.First.{first_of}
+use Rattle.ft_names.specs.meaning.Spots.{row_spots}
+use Rattle.ft_names.proofs.walk.judge_rows.Given as goal
+
+abbrev pub invariant-loop-row : goal.invariant-loop-row
+invariant-loop-row g l = first_of (λ x. first_of (g.J.Judge.test l.judge) (row_spots l.entries l.site l.word x))
+    (take l.row-index l.rows) ≡ None
