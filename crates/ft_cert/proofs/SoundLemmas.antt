@@ -1,5 +1,6 @@
 -- Where a tree holds for a part, no point of the part satisfies the formula.
-use Rattle.std.proofs.Common.{◌≡◌, ◌∙◌, ◌⊎◌, inl, inr, sym, ap, subst, refl, ℕ, zero, suc, ◌<◌, ℤ, Bool, true, false, List, [], ◌∷◌, ◌++◌, length, Option, Some, None, slice_get, All, arith}
+use Rattle.std.proofs.Common.{◌≡◌, ◌∙◌, ◌⊎◌, inl, inr, sym, ap, subst, refl, ℕ, zero, suc, ◌<◌, ℤ, Bool, true, false, arith}
+use Rattle.std.proofs.Common.{List, [], ◌∷◌, ◌++◌, length, Option, Some, None, slice_get, All}
 use Rattle.std.specs.Prelude.{slice_set, unwrap_or}
 use Rattle.std.proofs.lemmas.Bool.{cases_Bool}
 use Rattle.std.proofs.lemmas.Int.{ints, by_lt_z}
@@ -18,7 +19,8 @@ use Rattle.ft_cert.specs.meaning.Tree.{Tree, Open, F, L, S, R, C, T, is_closed}
 use Rattle.ft_cert.proofs.TreeLemmas.{both-closed}
 
 -- what is read of a list with one place changed
-of-set : {X : Type 0} (xs : List X) (i j : ℕ) (y z : X) → slice_get (slice_set xs i y) j ≡ Some z → ((i ≡ j) × (y ≡ z)) ⊎ (slice_get xs j ≡ Some z)
+of-set : {X : Type 0} (xs : List X) (i j : ℕ) (y z : X)
+    → slice_get (slice_set xs i y) j ≡ Some z → ((i ≡ j) × (y ≡ z)) ⊎ (slice_get xs j ≡ Some z)
 of-set [] i j y z e = cc e
 of-set (x ∷ xs) zero zero y z e = inl (refl, cc e)
 of-set (x ∷ xs) zero (suc j) y z e = inr e
@@ -30,7 +32,9 @@ of-set (x ∷ xs) (suc i) (suc j) y z e = elim (of-set xs i j y z e) [
 
 in-set : (spans : List (ℤ × ℤ)) (x : ℕ → ℤ) (u : ℕ) (s : ℤ × ℤ) → InArea spans x → IsWithin s (x u) → InArea (slice_set spans u s) x
 in-set spans x u s area within v t e = elim (of-set spans u v s t e) [
-  | inl same ↦ let moved : IsWithin s (x v) = subst (λ (w : ℕ). IsWithin s (x w)) same.0 within in subst (λ (t : ℤ × ℤ). IsWithin t (x v)) same.1 moved
+  | inl same ↦
+      let moved : IsWithin s (x v) = subst (λ (w : ℕ). IsWithin s (x w)) same.0 within in
+      subst (λ (t : ℤ × ℤ). IsWithin t (x v)) same.1 moved
   | inr other ↦ area v t other
 ]
 
@@ -67,23 +71,26 @@ module _ (f : FormulaView) (x : ℕ → ℤ) where
     ],
   )
 
-  low-or-high : WithinSpans → (p : PartView) (u : ℕ) (v : ℤ) → u < length p.spans → PointOf f p x → PointOf f (low_part p u v) x ⊎ PointOf f (high_part p u v) x
+  low-or-high : WithinSpans → (p : PartView) (u : ℕ) (v : ℤ) → u < length p.spans → PointOf f p x
+      → PointOf f (low_part p u v) x ⊎ PointOf f (high_part p u v) x
   low-or-high in_span p u v below point =
       let within = in_span p.spans x u point.0 below in
       by_lt_z v (x u)
       (λ above. inr (cut-point p u _ point (omega (arith, ints, above), within.1)))
       (λ under. inl (cut-point p u _ point (within.0, omega (arith, ints, under))))
 
-  module _ (in_span : WithinSpans) (no : NoneWhereNo) (forced : ForcedHold) (met : DifferencesAreMet) (sums : NoneWhereContradicted) (tight : AllWithinTightened)
-      (sat : Satisfies f x) where
+  module _ (in_span : WithinSpans) (no : NoneWhereNo) (forced : ForcedHold) (met : DifferencesAreMet)
+      (sums : NoneWhereContradicted) (tight : AllWithinTightened) (sat : Satisfies f x) where
     abbrev HoldsAt : Placed → Type 0
     HoldsAt e = NodeHolds f e.part e.node
 
-    none-left : (t : Tree) (p : PartView) → is_closed t ≡ true → All HoldsAt (placed_of f p t) → IsOver (length p.spans) f → PointOf f p x → ⊥
+    none-left :
+        (t : Tree) (p : PartView) → is_closed t ≡ true → All HoldsAt (placed_of f p t) → IsOver (length p.spans) f → PointOf f p x → ⊥
     none-left Open p c all over point = cc c
     none-left F p c all over point = no f p x over (All-head HoldsAt (placed p node.F) [] all) point sat
     none-left L p c all over point = All-head HoldsAt (placed p node.L) [] all x (met f p x over point sat)
-    none-left (S lines) p c all over point = sums f p x lines (All-head HoldsAt (placed p (node.S lines)) [] all) point.0 (forced f p x over point sat)
+    none-left (S lines) p c all over point =
+        sums f p x lines (All-head HoldsAt (placed p (node.S lines)) [] all) point.0 (forced f p x over point sat)
     none-left (R u v a b) p c all over point =
         let (first, second) = both-closed (is_closed a) (is_closed b) c in
         let firsts = placed_of f (low_part p u v) a in
@@ -101,13 +108,15 @@ module _ (f : FormulaView) (x : ℕ → ℤ) where
         let more = All-tail HoldsAt (placed p (node.C atom)) (firsts ++ seconds) all in
         elim (cases_Bool (atom_at f.atoms x atom)) [
           | inl so ↦ none-left a (true_part p atom) first (all-left HoldsAt firsts seconds more) over (case-point p atom true point so)
-          | inr isnt ↦ none-left b (false_part p atom) second (all-right HoldsAt firsts seconds more) over (case-point p atom false point isnt)
+          | inr isnt ↦
+              none-left b (false_part p atom) second (all-right HoldsAt firsts seconds more) over (case-point p atom false point isnt)
         ]
     none-left (T u lines a) p c all over point =
         let more = placed_of f (tight_part f p u lines) a in
         let own = All-head HoldsAt (placed p (node.T u lines)) more all in
         let within = tight f p x u lines (tight_span f p u lines) own point.0 (forced f p x over point sat) in
-        none-left a (tight_part f p u lines) c (All-tail HoldsAt (placed p (node.T u lines)) more all) (cut-over p u _ over) (cut-point p u _ point within)
+        none-left a (tight_part f p u lines) c (All-tail HoldsAt (placed p (node.T u lines)) more all)
+        (cut-over p u _ over) (cut-point p u _ point within)
 
     pub none-where-holds : (p : PartView) (t : Tree) → IsOver (length p.spans) f → Holds f p t → PointOf f p x → ⊥
     none-where-holds p t over holds point =

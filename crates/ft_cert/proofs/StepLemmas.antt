@@ -1,5 +1,6 @@
 -- Steps and how they are taken back.
-use Rattle.std.proofs.Common.{◌≡◌, ◌∙◌, sym, ap, refl, ℕ, ◌<◌, ℤ, Bool, true, false, List, [], ◌∷◌, ◌++◌, length, reverse, Option, Some, None, slice_get, slice_set, arith}
+use Rattle.std.proofs.Common.{◌≡◌, ◌∙◌, sym, ap, refl, ℕ, ◌<◌, ℤ, Bool, true, false, arith}
+use Rattle.std.proofs.Common.{List, [], ◌∷◌, ◌++◌, length, reverse, Option, Some, None, slice_get, slice_set}
 use Rattle.std.specs.List.{list_all}
 use Rattle.std.proofs.lemmas.List.{reverse-append, set-set, set-get_or}
 use Rattle.std.proofs.lemmas.List.Folds.{list_all-append}
@@ -19,7 +20,8 @@ reverse-last xs x = reverse-append xs (x ∷ [])
 pub cut-is : (p q : PartView) (u : ℕ) (s : ℤ × ℤ) → q.spans ≡ slice_set p.spans u s → q.decided ≡ p.decided → q ≡ cut_to p u s
 cut-is p q u s e d = λ i. record { spans = e i; decided = d i }
 
-pub decided-is : (p q : PartView) (a : ℕ) (v : Option Bool) → q.spans ≡ p.spans → q.decided ≡ slice_set p.decided a v → q ≡ decided_to p a v
+pub decided-is :
+    (p q : PartView) (a : ℕ) (v : Option Bool) → q.spans ≡ p.spans → q.decided ≡ slice_set p.decided a v → q ≡ decided_to p a v
 decided-is p q a v e d = λ i. record { spans = e i; decided = d i }
 
 cut-cut : (p : PartView) (u : ℕ) (s t : ℤ × ℤ) → cut_to (cut_to p u s) u t ≡ cut_to p u t
@@ -37,7 +39,8 @@ cut-back p u s t got = cut-cut p u s t ∙ (λ i. record { spans = same-set p.sp
 decided-back : (p : PartView) (a : ℕ) (v w : Option Bool) → slice_get p.decided a ≡ Some w → decided_to (decided_to p a v) a w ≡ p
 decided-back p a v w got = decided-again p a v w ∙ (λ i. record { spans = p.spans; decided = same-set p.decided a w got i })
 
-waiting-push : (q : PartView) (items : List Undo) (e : Undo) → waiting_of q (reverse (items ++ e ∷ [])) ≡ second_of q e ++ waiting_of (taken_back q e) (reverse items)
+waiting-push : (q : PartView) (items : List Undo) (e : Undo)
+    → waiting_of q (reverse (items ++ e ∷ [])) ≡ second_of q e ++ waiting_of (taken_back q e) (reverse items)
 waiting-push q items e = ap (waiting_of q) (reverse-last items e)
 
 -- going on to the other part of a split
@@ -56,21 +59,25 @@ module _ (p q : PartView) (items rest : List Undo) where
       ∙ ap (λ (ws : List PartView). decided_to p a (Some false) ∷ ws) (sym (waiting-push (decided_to p a (Some false)) items (Decided a)))
       ∙ sym (λ i. decided-is p q a (Some false) e d i ∷ waiting_of (decided-is p q a (Some false) e d i) (reverse (left i)))
 
-  pub step-cut : (u : ℕ) (whole low high : ℤ × ℤ) → slice_get p.spans u ≡ Some whole → rest ≡ items ++ Half u whole high ∷ [] → q.spans ≡ slice_set p.spans u low → q.decided ≡ p.decided
+  pub step-cut : (u : ℕ) (whole low high : ℤ × ℤ) → slice_get p.spans u ≡ Some whole
+      → rest ≡ items ++ Half u whole high ∷ [] → q.spans ≡ slice_set p.spans u low → q.decided ≡ p.decided
       → (q ∷ waiting_of q (reverse rest)) ≡ (cut_to p u low ∷ cut_to p u high ∷ waiting_of p (reverse items))
   step-cut u whole low high got pushed e d =
       (λ i. cut-is p q u low e d i ∷ waiting_of (cut-is p q u low e d i) (reverse (pushed i)))
       ∙ ap (λ (ws : List PartView). cut_to p u low ∷ ws) (waiting-push (cut_to p u low) items (Half u whole high))
       ∙ (λ i. cut_to p u low ∷ cut-cut p u low high i ∷ waiting_of (cut-back p u low whole got i) (reverse items))
 
-  pub step-decide : (a : ℕ) → slice_get p.decided a ≡ Some None → rest ≡ items ++ Case a ∷ [] → q.spans ≡ p.spans → q.decided ≡ slice_set p.decided a (Some true)
+  pub step-decide : (a : ℕ) → slice_get p.decided a ≡ Some None → rest ≡ items ++ Case a ∷ []
+      → q.spans ≡ p.spans → q.decided ≡ slice_set p.decided a (Some true)
       → (q ∷ waiting_of q (reverse rest)) ≡ (decided_to p a (Some true) ∷ decided_to p a (Some false) ∷ waiting_of p (reverse items))
   step-decide a got pushed e d =
       (λ i. decided-is p q a (Some true) e d i ∷ waiting_of (decided-is p q a (Some true) e d i) (reverse (pushed i)))
       ∙ ap (λ (ws : List PartView). decided_to p a (Some true) ∷ ws) (waiting-push (decided_to p a (Some true)) items (Case a))
-      ∙ (λ i. decided_to p a (Some true) ∷ decided-again p a (Some true) (Some false) i ∷ waiting_of (decided-back p a (Some true) None got i) (reverse items))
+      ∙ (λ i. decided_to p a (Some true) ∷ decided-again p a (Some true) (Some false) i
+      ∷ waiting_of (decided-back p a (Some true) None got i) (reverse items))
 
-  pub step-tighten : (u : ℕ) (whole low : ℤ × ℤ) → slice_get p.spans u ≡ Some whole → rest ≡ items ++ Narrowed u whole ∷ [] → q.spans ≡ slice_set p.spans u low → q.decided ≡ p.decided
+  pub step-tighten : (u : ℕ) (whole low : ℤ × ℤ) → slice_get p.spans u ≡ Some whole
+      → rest ≡ items ++ Narrowed u whole ∷ [] → q.spans ≡ slice_set p.spans u low → q.decided ≡ p.decided
       → (q ∷ waiting_of q (reverse rest)) ≡ (cut_to p u low ∷ waiting_of p (reverse items))
   step-tighten u whole low got pushed e d =
       (λ i. cut-is p q u low e d i ∷ waiting_of (cut-is p q u low e d i) (reverse (pushed i)))
@@ -78,7 +85,8 @@ module _ (p q : PartView) (items rest : List Undo) where
       ∙ (λ i. cut_to p u low ∷ waiting_of (cut-back p u low whole got i) (reverse items))
 
 -- steps that are of what is there, with one more
-pub valid-push : (n m k l : ℕ) (xs ys : List Undo) (e : Undo) → k ≡ n → l ≡ m → ys ≡ xs ++ e ∷ [] → list_all (is_undo n m) xs ≡ true → is_undo n m e ≡ true
+pub valid-push : (n m k l : ℕ) (xs ys : List Undo) (e : Undo) → k ≡ n → l ≡ m → ys ≡ xs ++ e ∷ []
+    → list_all (is_undo n m) xs ≡ true → is_undo n m e ≡ true
     → list_all (is_undo k l) ys ≡ true
 valid-push n m k l xs ys e first second pushed all one =
     (λ i. list_all (is_undo (first i) (second i)) (pushed i)) ∙ list_all-append (is_undo n m) xs (e ∷ []) ∙ rw (all, one) refl
@@ -93,11 +101,13 @@ not-ended true p ws parts e some = absurd (none parts e some)
     none (p ∷ ps) e some = cc e
 not-ended false p ws parts e some = (refl, ap first_of e, ap rest_of e)
 
-pub take-parts : (ended : Bool) (p q : PartView) (ws vs parts : List PartView) (taken step : Step) → parts_from ended p ws ≡ parts → 0 < length parts → taken ≡ step
+pub take-parts : (ended : Bool) (p q : PartView) (ws vs parts : List PartView) (taken step : Step)
+    → parts_from ended p ws ≡ parts → 0 < length parts → taken ≡ step
     → (q ∷ vs) ≡ parts_by p step ++ ws → parts_from ended q vs ≡ parts_by (first_of parts) taken ++ rest_of parts
 take-parts ended p q ws vs parts taken step view some is e =
     let (lasts, first, rest) = not-ended ended p ws parts (sym view) some in
     (λ i. parts_from (lasts i) q vs) ∙ e ∙ sym (λ i. parts_by (first i) (is i) ++ rest i)
 
-pub first-is : (ended : Bool) (p : PartView) (ws parts : List PartView) → parts_from ended p ws ≡ parts → 0 < length parts → first_of parts ≡ p
+pub first-is : (ended : Bool) (p : PartView) (ws parts : List PartView)
+    → parts_from ended p ws ≡ parts → 0 < length parts → first_of parts ≡ p
 first-is ended p ws parts view some = (not-ended ended p ws parts (sym view) some).1

@@ -1,5 +1,6 @@
 -- Trees and the nodes that spell them.
-use Rattle.std.proofs.Common.{◌≡◌, ◌∙◌, sym, ap, refl, ℕ, zero, suc, ◌+◌, Bool, true, false, ◌&&◌, List, [], ◌∷◌, ◌++◌, append_assoc, append-nil, arith}
+use Rattle.std.proofs.Common.{◌≡◌, ◌∙◌, sym, ap, refl, ℕ, zero, suc, ◌+◌, Bool, true, false, ◌&&◌, arith}
+use Rattle.std.proofs.Common.{List, [], ◌∷◌, ◌++◌, append_assoc, append-nil}
 use Rattle.ft_cert.specs.declared.node.CertNode.{CertNode}
 use Rattle.ft_cert.specs.declared.node.CertNode.TheVariants as node
 use Rattle.ft_cert.specs.meaning.Tree.{Tree, Open, F, L, S, R, C, T, nodes_of, is_closed}
@@ -18,12 +19,14 @@ row-closed (S lines) ns c = refl
 row-closed (R u v a b) ns c =
     let (first, second) = both-closed (is_closed a) (is_closed b) c in
     let e : row_of ((nodes_of a ++ nodes_of b) ++ ns) ≡ a ∷ (b ∷ row_of ns) =
-    ap row_of (append_assoc (nodes_of a) (nodes_of b) ns) ∙ row-closed a (nodes_of b ++ ns) first ∙ ap (λ (ts : List Tree). a ∷ ts) (row-closed b ns second) in
+    ap row_of (append_assoc (nodes_of a) (nodes_of b) ns) ∙ row-closed a (nodes_of b ++ ns) first
+    ∙ ap (λ (ts : List Tree). a ∷ ts) (row-closed b ns second) in
     ap (with_node (node.R u v)) e
 row-closed (C atom a b) ns c =
     let (first, second) = both-closed (is_closed a) (is_closed b) c in
     let e : row_of ((nodes_of a ++ nodes_of b) ++ ns) ≡ a ∷ (b ∷ row_of ns) =
-    ap row_of (append_assoc (nodes_of a) (nodes_of b) ns) ∙ row-closed a (nodes_of b ++ ns) first ∙ ap (λ (ts : List Tree). a ∷ ts) (row-closed b ns second) in
+    ap row_of (append_assoc (nodes_of a) (nodes_of b) ns) ∙ row-closed a (nodes_of b ++ ns) first
+    ∙ ap (λ (ts : List Tree). a ∷ ts) (row-closed b ns second) in
     ap (with_node (node.C atom)) e
 row-closed (T u lines a) ns c = ap (with_node (node.T u lines)) (row-closed a ns c)
 
@@ -36,7 +39,8 @@ head-tail : (ts : List Tree) → nodes_of (head_of ts) ++ row_nodes (tail_of ts)
 head-tail [] = refl
 head-tail (t ∷ ts) = refl
 
-two-nodes : (ts : List Tree) → (nodes_of (head_of ts) ++ nodes_of (head_of (tail_of ts))) ++ row_nodes (tail_of (tail_of ts)) ≡ row_nodes ts
+two-nodes :
+    (ts : List Tree) → (nodes_of (head_of ts) ++ nodes_of (head_of (tail_of ts))) ++ row_nodes (tail_of (tail_of ts)) ≡ row_nodes ts
 two-nodes ts = append_assoc (nodes_of (head_of ts)) (nodes_of (head_of (tail_of ts))) (row_nodes (tail_of (tail_of ts)))
     ∙ ap (λ (ns : List CertNode). nodes_of (head_of ts) ++ ns) (head-tail (tail_of ts)) ∙ head-tail ts
 
@@ -116,13 +120,17 @@ trees-after (R u v a b) k ns c =
     let (first, second) = both-closed (is_closed a) (is_closed b) c in
     let same : 2 + k ≡ suc (suc k) = omega arith in
     ap (λ (j : ℕ). are_trees j ((nodes_of a ++ nodes_of b) ++ ns)) same
-    ∙ ap (are_trees (suc (suc k))) (append_assoc (nodes_of a) (nodes_of b) ns) ∙ trees-after a (suc k) (nodes_of b ++ ns) first ∙ trees-after b k ns second
+    ∙ ap (are_trees (suc (suc k))) (append_assoc (nodes_of a) (nodes_of b) ns)
+    ∙ trees-after a (suc k) (nodes_of b ++ ns) first ∙ trees-after b k ns second
 trees-after (C atom a b) k ns c =
     let (first, second) = both-closed (is_closed a) (is_closed b) c in
     let same : 2 + k ≡ suc (suc k) = omega arith in
     ap (λ (j : ℕ). are_trees j ((nodes_of a ++ nodes_of b) ++ ns)) same
-    ∙ ap (are_trees (suc (suc k))) (append_assoc (nodes_of a) (nodes_of b) ns) ∙ trees-after a (suc k) (nodes_of b ++ ns) first ∙ trees-after b k ns second
-trees-after (T u lines a) k ns c = let same : 1 + k ≡ suc k = omega arith in ap (λ (j : ℕ). are_trees j (nodes_of a ++ ns)) same ∙ trees-after a k ns c
+    ∙ ap (are_trees (suc (suc k))) (append_assoc (nodes_of a) (nodes_of b) ns)
+    ∙ trees-after a (suc k) (nodes_of b ++ ns) first ∙ trees-after b k ns second
+trees-after (T u lines a) k ns c =
+    let same : 1 + k ≡ suc k = omega arith in
+    ap (λ (j : ℕ). are_trees j (nodes_of a ++ ns)) same ∙ trees-after a k ns c
 
 -- the nodes of a closed tree are one whole tree
 pub closed-whole : (t : Tree) → is_closed t ≡ true → are_trees 1 (nodes_of t) ≡ true

@@ -18,7 +18,8 @@ module _ (f : FormulaView) where
       → placed_by f (q ∷ ps) (nodes_of b ++ ns) ≡ placed_of f q b ++ placed_by f ps ns
       → placed_by f (p ∷ q ∷ ps) ((nodes_of a ++ nodes_of b) ++ ns) ≡ (placed_of f p a ++ placed_of f q b) ++ placed_by f ps ns
   two-placed a b p q ps ns first second =
-      ap (placed_by f (p ∷ q ∷ ps)) (append_assoc (nodes_of a) (nodes_of b) ns) ∙ first ∙ ap (λ (es : List Placed). placed_of f p a ++ es) second
+      ap (placed_by f (p ∷ q ∷ ps)) (append_assoc (nodes_of a) (nodes_of b) ns) ∙ first
+      ∙ ap (λ (es : List Placed). placed_of f p a ++ es) second
       ∙ sym (append_assoc (placed_of f p a) (placed_of f q b) (placed_by f ps ns))
 
   -- the nodes of a closed tree, and what comes after them
@@ -36,13 +37,15 @@ module _ (f : FormulaView) where
       let (first, second) = both-closed (is_closed a) (is_closed b) c in
       ap (λ (es : List Placed). placed p (node.C atom) ∷ es) (two-placed a b (true_part p atom) (false_part p atom) ps ns
       (placed-on a (true_part p atom) (false_part p atom ∷ ps) (nodes_of b ++ ns) first) (placed-on b (false_part p atom) ps ns second))
-  placed-on (T u lines a) p ps ns c = ap (λ (es : List Placed). placed p (node.T u lines) ∷ es) (placed-on a (tight_part f p u lines) ps ns c)
+  placed-on (T u lines a) p ps ns c =
+      ap (λ (es : List Placed). placed p (node.T u lines) ∷ es) (placed-on a (tight_part f p u lines) ps ns c)
 
   pub placed-in-order : (p : PartView) (t : Tree) → is_closed t ≡ true → placed_by f (p ∷ []) (nodes_of t) ≡ placed_of f p t
   placed-in-order p t c =
       ap (placed_by f (p ∷ [])) (sym (append-nil (nodes_of t))) ∙ placed-on t p [] [] c ∙ append-nil (placed_of f p t)
 
-  two-lengths : (a b : Tree) (p q : PartView) → length (placed_of f p a) ≡ length (nodes_of a) → length (placed_of f q b) ≡ length (nodes_of b)
+  two-lengths : (a b : Tree) (p q : PartView) → length (placed_of f p a) ≡ length (nodes_of a)
+      → length (placed_of f q b) ≡ length (nodes_of b)
       → length (placed_of f p a ++ placed_of f q b) ≡ length (nodes_of a ++ nodes_of b)
   two-lengths a b p q e d =
       length-append (placed_of f p a) (placed_of f q b) ∙ (λ i. e i + d i) ∙ sym (length-append (nodes_of a) (nodes_of b))
@@ -54,7 +57,8 @@ module _ (f : FormulaView) where
   all-placed p L = refl
   all-placed p (S lines) = refl
   all-placed p (R u v a b) =
-      let e = two-lengths a b (low_part p u v) (high_part p u v) (all-placed (low_part p u v) a) (all-placed (high_part p u v) b) in ap suc e
+      ap suc (two-lengths a b (low_part p u v) (high_part p u v) (all-placed (low_part p u v) a) (all-placed (high_part p u v) b))
   all-placed p (C atom a b) =
-      let e = two-lengths a b (true_part p atom) (false_part p atom) (all-placed (true_part p atom) a) (all-placed (false_part p atom) b) in ap suc e
+      ap suc (two-lengths a b (true_part p atom) (false_part p atom) (all-placed (true_part p atom) a)
+      (all-placed (false_part p atom) b))
   all-placed p (T u lines a) = ap suc (all-placed (tight_part f p u lines) a)

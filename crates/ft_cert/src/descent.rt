@@ -1,7 +1,6 @@
-ghost use Rattle.std.specs.Prelude.{◌≡◌, ◌<◌, ◌≤◌, ◌+◌, ◌↔◌, ℕ, [], ◌∷◌, ◌++◌, true, length, reverse, slice_get, Some, IsTrue, IsFalse, IfOk};
-ghost use Rattle.std.specs.List.{list_all};
+ghost use Rattle.std.specs.Prelude.{◌≡◌, ◌<◌, ◌≤◌, ◌+◌, ◌↔◌, [], ◌∷◌, ◌++◌, true, length, slice_get, Some, IsTrue, IsFalse, IfOk};
 ghost use Rattle.ft_cert.specs.meaning.Parts.{whole_of};
-ghost use Rattle.ft_cert.specs.walk.Steps.{CanStep, is_undo, parts_by, room_by, waiting_of};
+ghost use Rattle.ft_cert.specs.walk.Steps.{CanStep, are_undos, behind, is_undo, parts_by, room_by, waiting_behind};
 ghost use Rattle.ft_cert.specs.walk.Waiting.{first_of, rest_of};
 
 use crate::step::Step;
@@ -45,16 +44,15 @@ pub struct Descent {
 }
 
 impl Model for Descent {
-    ghost use Rattle.std.specs.Prelude.{◌≡◌, true, length, reverse};
-    ghost use Rattle.std.specs.List.{list_all};
-    ghost use Rattle.ft_cert.specs.walk.Steps.{is_undo, parts_from, waiting_of};
+    ghost use Rattle.std.specs.Prelude.{◌≡◌, true};
+    ghost use Rattle.ft_cert.specs.walk.Steps.{are_undos, descent_view};
     ghost use Rattle.ft_cert.specs.walk.Waiting.{DescentView};
 
     ghost Value = { DescentView };
 
-    ghost view = { λ d. record { parts = parts_from d.ended d.part (waiting_of d.part (reverse d.undone.items)); unknowns = length d.part.spans; atoms = length d.part.decided; spare = d.undone.spare } };
+    ghost view = { λ d. descent_view d.ended d.part d.undone.items d.undone.spare };
 
-    ghost invariant = { λ d. list_all (is_undo (length d.part.spans) (length d.part.decided)) d.undone.items ≡ true };
+    ghost invariant = { λ d. are_undos d.part d.undone.items ≡ true };
 }
 
 /// The span of an unknown.
@@ -69,11 +67,11 @@ fn span_of(part: &Part, unknown: u32) -> Span
 fn go_back(part: &mut Part, undone: &mut Pool<Undo>, last: Undo) -> bool
     requires room { 0 < undone.old.spare }
     requires last { is_undo (length part.old.spans) (length part.old.decided) last ≡ true }
-    requires valid { list_all (is_undo (length part.old.spans) (length part.old.decided)) undone.old.items ≡ true }
-    ensures moved { IsTrue result → waiting_of part.old (last ∷ reverse undone.old.items) ≡ part.new ∷ waiting_of part.new (reverse undone.new.items) }
-    ensures same { IsFalse result → waiting_of part.old (last ∷ reverse undone.old.items) ≡ waiting_of part.new (reverse undone.new.items) }
+    requires valid { are_undos part.old undone.old.items ≡ true }
+    ensures moved { IsTrue result → behind part.old undone.old.items last ≡ part.new ∷ waiting_behind part.new undone.new.items }
+    ensures same { IsFalse result → behind part.old undone.old.items last ≡ waiting_behind part.new undone.new.items }
     ensures shorter { IsFalse result → length undone.new.items ≡ length undone.old.items }
-    ensures valid { list_all (is_undo (length part.new.spans) (length part.new.decided)) undone.new.items ≡ true }
+    ensures valid { are_undos part.new undone.new.items ≡ true }
     ensures room { undone.old.spare ≤ undone.new.spare + 1 }
     ensures unknowns { length part.new.spans ≡ length part.old.spans }
     ensures atoms { length part.new.decided ≡ length part.old.decided }
@@ -109,10 +107,10 @@ fn go_back(part: &mut Part, undone: &mut Pool<Undo>, last: Undo) -> bool
 
 /// Takes steps back up to the next part that waits. It is false where none does.
 fn go_on(part: &mut Part, undone: &mut Pool<Undo>) -> bool
-    requires { list_all (is_undo (length part.old.spans) (length part.old.decided)) undone.old.items ≡ true }
-    ensures moved { IsTrue result → waiting_of part.old (reverse undone.old.items) ≡ part.new ∷ waiting_of part.new (reverse undone.new.items) }
-    ensures ended { IsFalse result → waiting_of part.old (reverse undone.old.items) ≡ [] }
-    ensures valid { list_all (is_undo (length part.new.spans) (length part.new.decided)) undone.new.items ≡ true }
+    requires { are_undos part.old undone.old.items ≡ true }
+    ensures moved { IsTrue result → waiting_behind part.old undone.old.items ≡ part.new ∷ waiting_behind part.new undone.new.items }
+    ensures ended { IsFalse result → waiting_behind part.old undone.old.items ≡ [] }
+    ensures valid { are_undos part.new undone.new.items ≡ true }
     ensures room { undone.old.spare ≤ undone.new.spare }
     ensures unknowns { length part.new.spans ≡ length part.old.spans }
     ensures atoms { length part.new.decided ≡ length part.old.decided }

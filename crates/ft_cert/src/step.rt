@@ -36,7 +36,8 @@ pub enum Step {
 
 /// The two spans of a cut at a value. None exactly where one of them would be empty.
 fn halves(span: Span, value: i64) -> Option<(Span, Span)>
-    ensures some { IfSome result (λ h. (span.0 ≤ℤ value) × (value <ℤ span.1) × (h.0 ≡ (span.0, value)) × (h.1 ≡ (value +ℤ pos 1, span.1))) }
+    ensures some { IfSome result (λ h. (span.0 ≤ℤ value) × (value <ℤ span.1)) }
+    ensures spans { IfSome result (λ h. (h.0 ≡ (span.0, value)) × (h.1 ≡ (value +ℤ pos 1, span.1))) }
     ensures none { IfNone result (span.0 ≤ℤ value → value <ℤ span.1 → ⊥) }
 {
     if value < span.lo() || value >= span.hi() {

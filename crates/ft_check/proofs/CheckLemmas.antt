@@ -1,5 +1,6 @@
 -- The nodes of a certificate, one after another, each at its own part.
-use Rattle.std.proofs.Common.{◌≡◌, ◌∙◌, inl, inr, sym, ap, subst, refl, ℕ, zero, suc, ◌+◌, ◌<◌, ◌≤◌, ℤ, Bool, true, List, [], ◌∷◌, ◌++◌, length, take, drop, slice_index_or, slice_get, Option, Some, None, map, arith}
+use Rattle.std.proofs.Common.{◌≡◌, ◌∙◌, inl, inr, sym, ap, subst, refl, ℕ, zero, suc, ◌+◌, ◌<◌, ◌≤◌, ℤ, Bool, true, arith}
+use Rattle.std.proofs.Common.{List, [], ◌∷◌, ◌++◌, length, take, drop, slice_index_or, slice_get, Option, Some, None, map}
 use Rattle.std.specs.Prelude.{unwrap_or}
 use Rattle.std.proofs.lemmas.Bool.{cases_eq}
 use Rattle.std.proofs.lemmas.List.{drop_more}
@@ -15,7 +16,8 @@ use Rattle.ft_cert.specs.meaning.Tree.{Tree, is_closed, nodes_of}
 use Rattle.ft_cert.specs.walk.Waiting.{children, first_of, placed_by, rest_of}
 
 -- what is left of a list from a place on tells what stands there, and what is left behind it
-from-drop : {X : Type 0} (xs : List X) (i : ℕ) (x : X) (ys : List X) → drop i xs ≡ x ∷ ys → (slice_get xs i ≡ Some x) × (drop (i + 1) xs ≡ ys)
+from-drop : {X : Type 0} (xs : List X) (i : ℕ) (x : X) (ys : List X)
+    → drop i xs ≡ x ∷ ys → (slice_get xs i ≡ Some x) × (drop (i + 1) xs ≡ ys)
 from-drop [] zero x ys e = cc e
 from-drop [] (suc i) x ys e = cc e
 from-drop (z ∷ xs) zero x ys e = let same : z ≡ x = cc e in let left : xs ≡ ys = cc e in (ap (λ (w : _). Some w) same, left)
@@ -25,7 +27,8 @@ from-drop (z ∷ xs) (suc i) x ys e =
     (stands, ap (λ (n : ℕ). drop n (z ∷ xs)) same ∙ left)
 
 -- each of the first so many, and one more
-below-more : (Q : Rule) (es : List Placed) (i : ℕ) (e : Placed) → EachBelow Q es i → slice_get es i ≡ Some e → Q (take i es) e → EachBelow Q es (i + 1)
+below-more : (Q : Rule) (es : List Placed) (i : ℕ) (e : Placed) → EachBelow Q es i
+    → slice_get es i ≡ Some e → Q (take i es) e → EachBelow Q es (i + 1)
 below-more Q es i e all got one j d below at = elim (cases_eq j i) [
   | inl same ↦
       let is : e ≡ d = cc (sym got ∙ ap (slice_get es) (sym same) ∙ at) in
@@ -34,7 +37,8 @@ below-more Q es i e all got one j d below at = elim (cases_eq j i) [
   | inr other ↦ all j d (grind (arith, below, other)) at
 ]
 
-module _ (f : FormulaView) (p : PartView) (t : Tree) (all_placed : AllArePlaced) (items : List CertNode) (spells : items ≡ nodes_of t) where
+module _ (f : FormulaView) (p : PartView) (t : Tree) (all_placed : AllArePlaced)
+    (items : List CertNode) (spells : items ≡ nodes_of t) where
   abbrev own : List Placed
   own = placed_of f p t
 
@@ -62,21 +66,25 @@ module _ (f : FormulaView) (p : PartView) (t : Tree) (all_placed : AllArePlaced)
     -- the node's own part is the first that waits
     stands : (slice_get own i ≡ Some (placed (first_of parts) n))
         × (drop (i + 1) own ≡ placed_by f (children f (first_of parts) n ++ rest_of parts) (drop (i + 1) items))
-    stands = from-drop own i (placed (first_of parts) n) (placed_by f (children f (first_of parts) n ++ rest_of parts) (drop (i + 1) items))
+    stands = from-drop own i (placed (first_of parts) n)
+        (placed_by f (children f (first_of parts) n ++ rest_of parts) (drop (i + 1) items))
         (at-node ∙ first parts waits)
       where
         first : (qs : List PartView) → 0 < length qs
-            → placed_by f qs (n ∷ drop (i + 1) items) ≡ placed (first_of qs) n ∷ placed_by f (children f (first_of qs) n ++ rest_of qs) (drop (i + 1) items)
+            → placed_by f qs (n ∷ drop (i + 1) items)
+            ≡ placed (first_of qs) n ∷ placed_by f (children f (first_of qs) n ++ rest_of qs) (drop (i + 1) items)
         first [] some = absurd (omega (arith, some))
         first (q ∷ qs) some = refl
 
-    pub rest-more : (next : List PartView) → next ≡ children f (first_of parts) n ++ rest_of parts → drop (i + 1) own ≡ placed_by f next (drop (i + 1) items)
+    pub rest-more : (next : List PartView) → next ≡ children f (first_of parts) n ++ rest_of parts
+        → drop (i + 1) own ≡ placed_by f next (drop (i + 1) items)
     rest-more next same = stands.1 ∙ ap (λ (qs : List PartView). placed_by f qs (drop (i + 1) items)) (sym same)
 
     pub before-more : EachBelow (by_its_kind f) own i → NodeHolds f (first_of parts) n → EachBelow (by_its_kind f) own (i + 1)
     before-more before holds = below-more (by_its_kind f) own i (placed (first_of parts) n) before stands.0 holds
 
-    pub is-refused : (number : ℕ) → number ≡ i + 1 → EachBelow (by_its_kind f) own i → (NodeHolds f (first_of parts) n → ⊥) → IsFirstRefused f p t number
+    pub is-refused : (number : ℕ) → number ≡ i + 1 → EachBelow (by_its_kind f) own i
+        → (NodeHolds f (first_of parts) n → ⊥) → IsFirstRefused f p t number
     is-refused number same before fails = record {
       place = i;
       refused = placed (first_of parts) n;

@@ -23,7 +23,8 @@ fn advance(formula: &Formula, node: &CertNode, descent: &mut Descent, room: &mut
     requires over { IsOver descent.old.unknowns formula.now }
     requires spare { 0 < descent.old.spare }
     ensures holds { IsTrue result → NodeHolds formula.now (first_of descent.old.parts) node.now }
-    ensures parts { IsTrue result → descent.new.parts ≡ children formula.now (first_of descent.old.parts) node.now ++ rest_of descent.old.parts }
+    ensures parts { IsTrue result
+        → descent.new.parts ≡ children formula.now (first_of descent.old.parts) node.now ++ rest_of descent.old.parts }
     ensures fails { IsFalse result → NodeHolds formula.now (first_of descent.old.parts) node.now → ⊥ }
     ensures room { IsRoomFor formula.now descent.old.unknowns room.new }
     ensures unknowns { descent.new.unknowns ≡ descent.old.unknowns }

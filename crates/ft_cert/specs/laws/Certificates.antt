@@ -8,7 +8,8 @@ use Rattle.ft_cert.specs.walk.Waiting.{placed_by}
 
 -- where a certificate holds for a part, no point of the part satisfies the formula
 abbrev pub NoneWhereHolds : Type 0
-NoneWhereHolds = (f : FormulaView) (p : PartView) (t : Tree) (x : ℕ → ℤ) → IsOver (length p.spans) f → Holds f p t → PointOf f p x → Satisfies f x → ⊥
+NoneWhereHolds =
+    (f : FormulaView) (p : PartView) (t : Tree) (x : ℕ → ℤ) → IsOver (length p.spans) f → Holds f p t → PointOf f p x → Satisfies f x → ⊥
 
 -- the own parts of a tree's nodes, as its nodes alone tell them
 abbrev pub PlacedInOrder : Type 0

@@ -35,11 +35,13 @@ read_marked L ms = refl
 read_marked (S lines) ms = refl
 read_marked (R u v a b) ms =
     let e : read_row ((marked a ++ marked b) ++ ms) ≡ a ∷ (b ∷ read_row ms) =
-    ap read_row (append_assoc (marked a) (marked b) ms) ∙ read_marked a (marked b ++ ms) ∙ ap (λ (ts : List Tree). a ∷ ts) (read_marked b ms) in
+    ap read_row (append_assoc (marked a) (marked b) ms) ∙ read_marked a (marked b ++ ms)
+    ∙ ap (λ (ts : List Tree). a ∷ ts) (read_marked b ms) in
     ap (with_node (node.R u v)) e
 read_marked (C atom a b) ms =
     let e : read_row ((marked a ++ marked b) ++ ms) ≡ a ∷ (b ∷ read_row ms) =
-    ap read_row (append_assoc (marked a) (marked b) ms) ∙ read_marked a (marked b ++ ms) ∙ ap (λ (ts : List Tree). a ∷ ts) (read_marked b ms) in
+    ap read_row (append_assoc (marked a) (marked b) ms) ∙ read_marked a (marked b ++ ms)
+    ∙ ap (λ (ts : List Tree). a ∷ ts) (read_marked b ms) in
     ap (with_node (node.C atom)) e
 read_marked (T u lines a) ms = ap (with_node (node.T u lines)) (read_marked a ms)
 

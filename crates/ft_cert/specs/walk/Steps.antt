@@ -1,5 +1,6 @@
 -- Steps from a part to the parts that a node makes of it, and how they are taken back.
-use Rattle.std.specs.Prelude.{◌≡◌, ◌<◌, ℕ, nat_lt, Bool, true, false, List, [], ◌∷◌, ◌++◌, Option, Some, None, length, slice_get}
+use Rattle.std.specs.Prelude.{◌≡◌, ◌<◌, ℕ, nat_lt, Bool, true, false, List, [], ◌∷◌, ◌++◌, Option, Some, None, length, reverse, slice_get}
+use Rattle.std.specs.List.{list_all}
 use Rattle.ft_linear.specs.meaning.Formula.{FormulaView}
 use Rattle.ft_linear.specs.meaning.Part.{PartView}
 use Rattle.ft_cert.specs.declared.node.CertNode.{CertNode}
@@ -9,7 +10,7 @@ use Rattle.ft_cert.specs.declared.step.Step.{Step}
 use Rattle.ft_cert.specs.declared.step.Step.TheVariants as step
 use Rattle.ft_cert.specs.meaning.Evidence.{NodeHolds}
 use Rattle.ft_cert.specs.meaning.Parts.{cut_to, decided_to}
-use Rattle.ft_cert.specs.walk.Waiting.{children}
+use Rattle.ft_cert.specs.walk.Waiting.{DescentView, children}
 
 -- the parts that a step makes of a part
 abbrev pub parts_by : PartView → Step → List PartView
@@ -56,6 +57,13 @@ abbrev pub waiting_of : PartView → List Undo → List PartView
 waiting_of p [] = []
 waiting_of p (e ∷ es) = second_of p e ++ waiting_of (taken_back p e) es
 
+-- and by them from the first to the last, with one more behind these
+abbrev pub waiting_behind : PartView → List Undo → List PartView
+waiting_behind p items = waiting_of p (reverse items)
+
+abbrev pub behind : PartView → List Undo → Undo → List PartView
+behind p items last = waiting_of p (last ∷ reverse items)
+
 -- no part waits any more where the descent has ended
 abbrev pub parts_from : Bool → PartView → List PartView → List PartView
 parts_from true p waiting = []
@@ -67,3 +75,15 @@ is_undo unknowns atoms (Narrowed u span) = nat_lt u unknowns
 is_undo unknowns atoms (Half u whole second) = nat_lt u unknowns
 is_undo unknowns atoms (Decided atom) = nat_lt atom atoms
 is_undo unknowns atoms (Case atom) = nat_lt atom atoms
+
+abbrev pub are_undos : PartView → List Undo → Bool
+are_undos p items = list_all (is_undo (length p.spans) (length p.decided)) items
+
+-- a descent at a part, by whether it has ended, the steps that lead back, and the room for more
+abbrev pub descent_view : Bool → PartView → List Undo → ℕ → DescentView
+descent_view ended p items spare = record {
+  parts = parts_from ended p (waiting_behind p items);
+  unknowns = length p.spans;
+  atoms = length p.decided;
+  spare = spare;
+}

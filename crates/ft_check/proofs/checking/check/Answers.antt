@@ -16,7 +16,8 @@ returns-then-not-advance-clause-fault c =
     let p = whole_of f c.args.area.now.spans in
     is-refused f p c.args.cert.now c.cert_laws.ensures.all c.nodes-nodes.result.now c.nodes-nodes.ensures.value
     c.nodes.node-index c.node-item.result (omega arith) c.node-item.is c.nodes.descent.parts c.nodes.invariant.rest
-    (c.nodes.number + 1) (ap (λ (k : ℕ). k + 1) c.nodes.invariant.number) c.nodes.invariant.before (c.advance.ensures.fails c.if-not-advance.true)
+    (c.nodes.number + 1) (ap (λ (k : ℕ). k + 1) c.nodes.invariant.number) c.nodes.invariant.before
+    (c.advance.ensures.fails c.if-not-advance.true)
 
 pub returns-then-not-advance-clause-only : goal.returns-then-not-advance-clause-only
 returns-then-not-advance-clause-only c holds =
@@ -25,7 +26,8 @@ returns-then-not-advance-clause-only c holds =
     absurd (fails-where-refused f p c.args.cert.now (c.nodes.number + 1) (
     is-refused f p c.args.cert.now c.cert_laws.ensures.all c.nodes-nodes.result.now c.nodes-nodes.ensures.value
     c.nodes.node-index c.node-item.result (omega arith) c.node-item.is c.nodes.descent.parts c.nodes.invariant.rest
-    (c.nodes.number + 1) (ap (λ (k : ℕ). k + 1) c.nodes.invariant.number) c.nodes.invariant.before (c.advance.ensures.fails c.if-not-advance.true)) holds)
+    (c.nodes.number + 1) (ap (λ (k : ℕ). k + 1) c.nodes.invariant.number) c.nodes.invariant.before
+    (c.advance.ensures.fails c.if-not-advance.true)) holds)
 
 pub nodes-preserved : goal.nodes-preserved
 nodes-preserved c =

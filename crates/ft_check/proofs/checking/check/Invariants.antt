@@ -7,7 +7,8 @@ use Rattle.ft_check.proofs.checking.check.Given as goal
 
 abbrev pub invariant-nodes : goal.invariant-nodes
 invariant-nodes l = record {
-  rest : drop l.node-index (placed_of l.formula (whole_of l.formula l.area.spans) l.cert) ≡ placed_by l.formula l.descent.parts (drop l.node-index l.nodes);
+  rest : drop l.node-index (placed_of l.formula (whole_of l.formula l.area.spans) l.cert)
+      ≡ placed_by l.formula l.descent.parts (drop l.node-index l.nodes);
   before : EachBelow (by_its_kind l.formula) (placed_of l.formula (whole_of l.formula l.area.spans) l.cert) l.node-index;
   number : l.number ≡ l.node-index;
   unknowns : l.descent.unknowns ≡ length l.area.spans;

@@ -5,7 +5,8 @@ use Rattle.ft_cert.proofs.cert.Cert.of_nodes.Goals as goal
 
 pub returns-then-is_whole-clause-whole : goal.returns-then-is_whole-clause-whole
 returns-then-is_whole-clause-whole c =
-    let whole : are_trees 1 c.args.nodes ≡ true = ap (are_trees 1) (sym c.as_slice.ensures) ∙ sym c.is_whole.ensures ∙ c.if-is_whole.true in
+    let whole : are_trees 1 c.args.nodes ≡ true =
+    ap (are_trees 1) (sym c.as_slice.ensures) ∙ sym c.is_whole.ensures ∙ c.if-is_whole.true in
     (tree-nodes c.args.nodes whole, tree-closed c.args.nodes whole)
 
 pub returns-else-is_whole-clause-none : goal.returns-else-is_whole-clause-none
