@@ -1,0 +1,4 @@
+pub mod TreeLemmas
+pub mod WaitingLemmas
+pub mod SoundLemmas
+pub mod StepLemmas

@@ -1,0 +1,4 @@
+pub mod meaning
+pub mod laws
+pub mod prefix
+pub mod walk

@@ -1,0 +1,2 @@
+-- What nodes are judged in.
+pub mod Room
