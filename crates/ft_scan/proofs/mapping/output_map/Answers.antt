@@ -1,6 +1,6 @@
 use Rattle.std.proofs.Common.{◌∙◌, refl, [], true, true≢false}
 use Rattle.ft_core.specs.declared.tables.Section.TheVariants.{Out}
-use Rattle.ft_core.specs.Kinds.{outputs}
+use Rattle.ft_core.specs.meaning.Kinds.{outputs}
 use Rattle.ft_scan.proofs.RowLemmas.{row_keeps}
 use Rattle.ft_scan.proofs.MapLemmas.{has_values, image_maps}
 use Rattle.ft_scan.proofs.mapping.output_map.Goals as goal
