@@ -8,6 +8,10 @@ pub mod Passes
 pub mod ProperTests
 pub mod ReadingRules
 pub mod RelayLemmas
+pub mod RelayRows
+pub mod RelaySound
 pub mod SoundTests
+pub mod SpelledLemmas
 pub mod TraceTests
 pub mod TripLemmas
+pub mod WatchedSound
