@@ -13,6 +13,8 @@ mod replays;
 #[cfg(test)]
 mod tests;
 #[cfg(test)]
+mod timed;
+#[cfg(test)]
 mod traces;
 #[cfg(test)]
 mod watched;

@@ -24,7 +24,11 @@ fn scan_of(replayed: Replayed) -> Option<usize> {
 }
 
 /// The first scan of a list at which the sides of the relay differ, if they do.
-fn replayed(alloc: Global, set: &Tables, history: &History) -> Result<Option<usize>, NoMemory>
+pub(crate) fn replayed(
+    alloc: Global,
+    set: &Tables,
+    history: &History,
+) -> Result<Option<usize>, NoMemory>
     requires set { (late : Bool) × IsMadeOf (relay (hold_of late)) set.now }
     requires list { IsMonitored set.now history.now }
 {
