@@ -16,5 +16,6 @@ module _ (hold : ℤ) (S : Tables) (is : IsMadeOf (relay hold) S) where
   pub all_allowed : (h : Scans) → IsMonitored S h → Allowed S h
   all_allowed h list = record {
     monitored_list = list;
-    clauses = λ t l. for_each (relay hold) S is (λ T. (ρ : Reading) (t : ℕ) → nat_at T ρ t ≡ true) (no_clause hold) (reading_of S monitored h) t;
+    clauses = λ t l. for_each (relay hold) S is (λ T. (ρ : Reading) (t : ℕ) → nat_at T ρ t ≡ true) (no_clause hold)
+        (reading_of S monitored h) t;
   }

@@ -1,5 +1,5 @@
 -- The two sets of what is watched are sound and checked.
-use Rattle.std.proofs.Common.{◌≡◌, sym, subst, refl, ℕ, pos, List, [], ◌∷◌, arith, ⊎_elim}
+use Rattle.std.proofs.Common.{◌≡◌, sym, subst, refl, pos, List, [], ◌∷◌, arith, ⊎_elim}
 use Rattle.std.specs.Prelude.{◌⊎◌}
 use Rattle.ft_core.specs.declared.tables.Var.{Var}
 use Rattle.ft_core.specs.checked.Checked.{IsChecked}

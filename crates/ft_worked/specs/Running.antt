@@ -1,5 +1,5 @@
 -- Scanners of the mixer, and replayers of the late relay.
-use Rattle.std.specs.Prelude.{◌≡◌, ◌≤◌, true, length}
+use Rattle.std.specs.Prelude.{◌≡◌, true}
 use Rattle.ft_core.specs.declared.tables.Side.{Side}
 use Rattle.ft_replay.specs.meaning.Replaying.{Replaying}
 use Rattle.ft_scan.specs.meaning.Scanning.{Scanning}

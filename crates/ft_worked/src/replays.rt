@@ -1,5 +1,5 @@
 //! What the replayer answers on the relay, for traces that are given as text, and on the mixer.
-ghost use Rattle.std.specs.Prelude.{◌≡◌, ◌≤◌, Bool, true, [], IfOk, length};
+ghost use Rattle.std.specs.Prelude.{◌≡◌, Bool, true, IfOk};
 ghost use Rattle.ft_mean.specs.meaning.Allowed.{IsMonitored};
 ghost use Rattle.ft_worked.specs.Made.{IsMadeOf};
 ghost use Rattle.ft_worked.specs.Mixer.{levels, mixer};

@@ -1,7 +1,6 @@
 //! The two sets of what is watched, made at run time.
-ghost use Rattle.std.specs.Prelude.{◌≡◌, IfOk, [], ◌∷◌, ◌⊎◌, pos};
-ghost use Rattle.ft_core.specs.declared.tables.VarKind.TheVariants.{Mon, Con};
-ghost use Rattle.ft_worked.specs.Made.{IsMadeOf, variable};
+ghost use Rattle.std.specs.Prelude.{◌≡◌, ◌⊎◌, IfOk};
+ghost use Rattle.ft_worked.specs.Made.{IsMadeOf};
 ghost use Rattle.ft_worked.specs.Watched.{level_alone, level_and_mode, mode, tables, watched};
 
 use crate::making::{declare, letter, number, pair};
