@@ -6,6 +6,11 @@ pub mod MixerRows
 pub mod MixerSound
 pub mod Passes
 pub mod ProperTests
+pub mod ReadingRules
 pub mod RelayLemmas
+pub mod RelayRows
+pub mod RelaySound
 pub mod SoundTests
+pub mod SpelledLemmas
 pub mod TripLemmas
+pub mod WatchedSound

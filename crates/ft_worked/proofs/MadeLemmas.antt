@@ -74,6 +74,17 @@ checked_as name splits depth blocks {vs = vs} {ws = ws} {ms = ms} {ns = ns} {ts 
     (subst (λ i. IsChecked name splits depth ws ns us x i c blocks) (sym eb)
     (subst (λ i. IsChecked name splits depth ws ns us x y i blocks) (sym ec) h)))))
 
+-- what is checked is checked of any name, parts and blocks that equal its own
+pub checked_with : (splits depth : ℕ) {name other : List ℕ} {vs ws : List Var} {ms ns : List Memory} {ts us : List Table}
+    {a b c x y z : List Cond} {ks ls : List Block}
+    → name ≡ other → vs ≡ ws → ms ≡ ns → ts ≡ us → a ≡ x → b ≡ y → c ≡ z → ks ≡ ls
+    → IsChecked other splits depth ws ns us x y z ls → IsChecked name splits depth vs ms ts a b c ks
+checked_with splits depth {other = other} {vs = vs} {ms = ms} {ts = ts} {a = a} {b = b} {c = c} {ks = ks} {ls = ls}
+    en ev em et ea eb ec es h =
+    subst (λ n. IsChecked n splits depth vs ms ts a b c ks) (sym en)
+    (subst (λ l. IsChecked other splits depth vs ms ts a b c l) (sym es)
+    (checked_as other splits depth ls ev em et ea eb ec h))
+
 module _ (p : Parts) (S : Tables) (is : IsMadeOf p S) where
   abbrev rest_of : Rest p
   rest_of = record {

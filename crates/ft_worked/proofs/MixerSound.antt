@@ -10,8 +10,7 @@ use Rattle.ft_core.specs.laws.CheckedTests.{CheckedByTests, PassesChecks}
 use Rattle.ft_core.specs.laws.SizeEquations.{sizes, lengths}
 use Rattle.ft_worked.specs.Mixer.{mixer, blocks}
 use Rattle.ft_worked.proofs.MadeLemmas.{IsSoundOf, checked_as}
-use Rattle.ft_core.specs.laws.Equations.{reads-Num, reads-Now, reads-Prev, reads-Add, reads-Times, reads-Div, reads-Yes, reads-No}
-use Rattle.ft_core.specs.laws.Equations.{reads-Compare, reads-Memory, reads-Not, reads-And}
+use Rattle.ft_worked.proofs.ReadingRules.{reading}
 use Rattle.ft_worked.proofs.SoundTests.{Passes, sound_by}
 
 -- level, valve, pump, probe, drive, gate, trend
@@ -21,22 +20,6 @@ of_vars = 0 ∷ 3 ∷ 3 ∷ 0 ∷ 3 ∷ 4 ∷ 2 ∷ []
 -- high, full, settled
 abbrev of_memories : List ℕ
 of_memories = 1 ∷ 2 ∷ 1 ∷ []
-
--- what terms and conditions of these kinds read
-ruleset reading = (
-  reads-Num,
-  reads-Now,
-  reads-Prev,
-  reads-Add,
-  reads-Times,
-  reads-Div,
-  reads-Yes,
-  reads-No,
-  reads-Compare,
-  reads-Memory,
-  reads-Not,
-  reads-And,
-)
 
 all_pass : Passes mixer.period mixer.vars mixer.memories mixer.tables mixer.first mixer.always mixer.step of_vars of_memories
 all_pass = record {

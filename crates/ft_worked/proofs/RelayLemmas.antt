@@ -29,6 +29,7 @@ use Rattle.ft_mean.specs.meaning.Value.{View, truth, value}
 use Rattle.ft_mean.specs.laws.Equations.{evaluation, value-Num}
 use Rattle.ft_core.specs.declared.term.Term.TheVariants.{Num}
 use Rattle.ft_core.specs.meaning.Grids.{Cell}
+use Rattle.ft_worked.specs.Made.{IsMadeOf}
 use Rattle.ft_worked.specs.Relay.{relay, vars, tables, is_on, on_thrice}
 use Rattle.ft_worked.specs.Worked.{RelayRefines, LateRelayDiffers}
 use Rattle.ft_mean.specs.laws.ScanTests.{list_is}
@@ -69,6 +70,9 @@ module _ (V : View) (local : InRanges vars V) where
       ),
     ),
   )
+
+pub is_proper : (hold : ℤ) (S : Tables) → IsMadeOf (relay hold) S → AllProper S
+is_proper hold S is = for_each (relay hold) S is AllProper (λ rest. proper_by_cells (set_of (relay hold) rest) each)
 
 -- the value that a table with one cell gives
 only_one : (z y : ℤ) → (int_eq z y || false) ≡ true → z ≡ y

@@ -3,4 +3,5 @@ pub mod Mixer
 pub mod Relay
 pub mod Running
 pub mod Trip
+pub mod Watched
 pub mod Worked

@@ -4,7 +4,7 @@
 --   switch                 1  1  1
 --   required               0  0  1
 --   with 150 ms            0  0  0
-use Rattle.std.specs.Prelude.{ℕ, ℤ, pos, List, [], ◌∷◌}
+use Rattle.std.specs.Prelude.{ℕ, ℤ, pos, Bool, List, [], ◌∷◌, if◌then◌else◌}
 use Rattle.ft_core.specs.declared.tables.Table.{Table}
 use Rattle.ft_core.specs.declared.tables.Var.{Var}
 use Rattle.ft_core.specs.declared.tables.VarKind.TheVariants.{Mon, Con, Input, Output}
@@ -34,6 +34,10 @@ is_on variable = Compare Eq (Now variable) (Num (pos 1))
 
 abbrev pub memories : (hold : ℤ) → List Memory
 memories hold = Held (114 ∷ []) side.Req (is_on 0) (pos 100) ∷ Held (115 ∷ []) side.Sof (is_on 2) hold ∷ []
+
+-- the hold of the design's timer, where it is late and where it isn't
+abbrev pub hold_of : (late : Bool) → ℤ
+hold_of late = if late then pos 150 else pos 100
 
 -- a table that gives one term
 abbrev pub always_gives : Section → (target : ℕ) → Term → Table

@@ -8,7 +8,7 @@ use ft_base::{Boxed, List, NoMemory, Range, Text};
 use ft_core::{Cond, Rel, Term, Var, VarKind};
 use std::alloc::Global;
 
-pub(super) fn only<T: Drop>(alloc: Global, item: T) -> Result<List<T>, NoMemory>
+pub(crate) fn only<T: Drop>(alloc: Global, item: T) -> Result<List<T>, NoMemory>
     ensures { IfOk result (λ list. list ≡ item ∷ []) }
 {
     let mut list = List::new(alloc);
@@ -16,7 +16,7 @@ pub(super) fn only<T: Drop>(alloc: Global, item: T) -> Result<List<T>, NoMemory>
     Ok(list)
 }
 
-pub(super) fn pair<T: Drop>(alloc: Global, first: T, second: T) -> Result<List<T>, NoMemory>
+pub(crate) fn pair<T: Drop>(alloc: Global, first: T, second: T) -> Result<List<T>, NoMemory>
     ensures { IfOk result (λ list. list ≡ first ∷ second ∷ []) }
 {
     let mut list = List::new(alloc);
@@ -25,7 +25,7 @@ pub(super) fn pair<T: Drop>(alloc: Global, first: T, second: T) -> Result<List<T
     Ok(list)
 }
 
-pub(super) fn triple<T: Drop>(
+pub(crate) fn triple<T: Drop>(
     alloc: Global,
     first: T,
     second: T,
@@ -41,14 +41,21 @@ pub(super) fn triple<T: Drop>(
 }
 
 /// A name of one letter.
-pub(super) fn letter(alloc: Global, byte: u8) -> Result<Text, NoMemory>
+pub(crate) fn letter(alloc: Global, byte: u8) -> Result<Text, NoMemory>
     ensures { IfOk result (λ text. text ≡ byte ∷ []) }
 {
     only(alloc, byte)
 }
 
 /// A variable from 0 up.
-fn number(name: Text, kind: VarKind, place: u32, top: u16, init: i64, members: List<Text>) -> Var
+pub(crate) fn number(
+    name: Text,
+    kind: VarKind,
+    place: u32,
+    top: u16,
+    init: i64,
+    members: List<Text>,
+) -> Var
     ensures { result ≡ record { name = name; kind = kind; place = place; range = (pos 0, pos top); members = members; init = init } }
 {
     match Range::new(0, i64::from(top)) {
@@ -80,7 +87,7 @@ fn named(
 }
 
 /// Adds such a variable to a list.
-pub(super) fn declare(
+pub(crate) fn declare(
     alloc: Global,
     list: &mut List<Var>,
     byte: u8,
@@ -95,14 +102,14 @@ pub(super) fn declare(
     Ok(())
 }
 
-pub(super) fn compared(relation: Rel, variable: u32, number: i64) -> Cond
+pub(crate) fn compared(relation: Rel, variable: u32, number: i64) -> Cond
     ensures { result ≡ Compare relation (Now variable) (Num number) }
 {
     Cond::Compare(relation, Term::Now(variable), Term::Num(number))
 }
 
 /// A memory, and its opposite.
-pub(super) fn memory_or_not(alloc: Global, memory: u32) -> Result<List<Cond>, NoMemory>
+pub(crate) fn memory_or_not(alloc: Global, memory: u32) -> Result<List<Cond>, NoMemory>
     ensures { IfOk result (λ list. list ≡ Memory memory ∷ Not (Memory memory) ∷ []) }
 {
     let other = Boxed::new(alloc, Cond::Memory(memory))?;

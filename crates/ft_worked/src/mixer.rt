@@ -9,7 +9,7 @@ ghost use Rattle.ft_worked.specs.Made.{IsMadeOf};
 ghost use Rattle.ft_worked.specs.Mixer.{against, blocks, by_design, drive, full, gate, high, memories, mixer, probe, settled, trend};
 ghost use Rattle.ft_worked.specs.Mixer.{valve_and_pump, vars};
 
-use super::making::{compared, declare, letter, memory_or_not, only, pair, triple};
+use crate::making::{compared, declare, letter, memory_or_not, only, pair, triple};
 use ft_base::{Boxed, List, NoMemory};
 use ft_core::{
     Block, Cond, Fact, Grid, Memory, Rel, Section, Side, Table, Tables, Take, Term, Var, VarKind,
