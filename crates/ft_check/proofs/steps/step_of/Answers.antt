@@ -1,7 +1,7 @@
 use Rattle.std.proofs.Common.{FitsSigned, rules, subst, sym, to_z-of_z, w64}
 use Rattle.ft_cert.specs.declared.node.CertNode.{CertNode}
 use Rattle.ft_cert.specs.walk.Steps.{IsStepOf}
-use Rattle.ft_check.proofs.steps.judged_step.Goals as goal
+use Rattle.ft_check.proofs.steps.step_of.Goals as goal
 
 pub returns-in-R-clause-is : goal.returns-in-R-clause-is
 returns-in-R-clause-is c =
