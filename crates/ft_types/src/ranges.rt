@@ -115,7 +115,7 @@ pub fn set_range(
     ensures { Answers result (set_range period splits depth) }
 {
     number_fault(1, 10_000, period)?;
-    option_fault(0, 1_000, splits)?;
+    option_fault(0, 200_000, splits)?;
     option_fault(1, 8, depth)
 }
 

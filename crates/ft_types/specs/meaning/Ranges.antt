@@ -49,7 +49,7 @@ option_fault lo hi (Some number) = number_fault lo hi number
 abbrev pub set_range : Number → (splits depth : Option Number) → Option TypeFault
 set_range period splits depth =
     option_or (number_fault (pos 1) (pos 10000) period)
-    (option_or (option_fault (pos 0) (pos 1000) splits) (option_fault (pos 1) (pos 8) depth))
+    (option_or (option_fault (pos 0) (pos 200000) splits) (option_fault (pos 1) (pos 8) depth))
 
 -- the first number of a set that is out of its range, in the order of the text
 abbrev pub first_bad_range : Number → (splits depth : Option Number) → List Item → Option TypeFault
