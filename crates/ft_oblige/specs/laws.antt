@@ -1,0 +1,4 @@
+pub mod ClaimLaws
+pub mod CoverLaws
+pub mod Equations
+pub mod Laws
