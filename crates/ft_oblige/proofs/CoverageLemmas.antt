@@ -124,6 +124,11 @@ module _ (σ : ℕ → ℤ) where
           ∙ step (claim_true σ c) (count (claim_true σ) cs)
           ∙ sym (ap (nat_le 2) (count-cons (claim_true σ) c cs))
 
+-- each row has as many entries as there are columns
+abbrev pub AreLong : {X : Type 0} → ℕ → List (List X) → Type 0
+AreLong n [] = Unit {0}
+AreLong n (r ∷ rows) = (length r ≡ n) × AreLong n rows
+
 module _ (S : Tables) (frame : Frame) (σ : ℕ → ℤ) where
   abbrev V : View
   V = view S frame σ
@@ -174,11 +179,6 @@ module _ (S : Tables) (frame : Frame) (σ : ℕ → ℤ) where
       step : (r b : Bool) (k : ℕ) → cond (r && b) 1 0 + cond r k 0 ≡ cond r (cond b 1 0 + k) 0
       step true b k = refl
       step false b k = refl
-
-  -- each row has as many entries as there are columns
-  abbrev pub AreLong : {X : Type 0} → ℕ → List (List X) → Type 0
-  AreLong n [] = Unit {0}
-  AreLong n (r ∷ rows) = (length r ≡ n) × AreLong n rows
 
   normal-count : (n target : ℕ) (columns rows : List Cond) (terms : List (List Term)) → length terms ≡ length rows
       → AreLong (length columns) terms

@@ -1,5 +1,12 @@
 pub mod ClaimLemmas
 pub mod CoverageLemmas
+pub mod LinkLemmas
 pub mod Lists
+pub mod LocalLemmas
 pub mod MoveLemmas
+pub mod NumberLemmas
 pub mod ReadLemmas
+pub mod ReadsThere
+pub mod ShapeLemmas
+pub mod ShownLemmas
+pub mod TableLemmas

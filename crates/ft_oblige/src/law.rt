@@ -1,4 +1,8 @@
-ghost use Rattle.ft_oblige.specs.laws.ClaimLaws.{TermsSay, ConditionsSay, CellsSay, DefinitionsSay, MovesSay};
+ghost use Rattle.ft_oblige.specs.laws.ClaimLaws.{TermsSay, ConditionsSay, CellsSay, DefinitionsSay, MovesSay, LinksSay};
+ghost use Rattle.ft_oblige.specs.laws.CoverLaws.{NodesSay, MetIsShown, ShownIsMet, ProperShowsNone, ProperIsUnmet};
+ghost use Rattle.ft_oblige.specs.laws.Laws.{Laws};
+
+use ft_mean::{evaluation_laws, table_laws};
 
 /// What is claimed of numbered names says what terms, conditions, tables and memories mean at the view that the numbers tell.
 pub fn claim_laws()
@@ -7,4 +11,26 @@ pub fn claim_laws()
     ensures cells { CellsSay }
     ensures definitions { DefinitionsSay }
     ensures moves { MovesSay }
+    ensures links { LinksSay }
 {}
+
+/// The three claims of a table, with the links of the memories that it reads: each is true exactly where the table shows its
+/// fault, numbers that meet one tell a local view at which it does, and each such view is told by such numbers. So the table
+/// is proper exactly where no numbers meet any of the three.
+pub fn cover_laws()
+    ensures nodes { NodesSay }
+    ensures met_shown { MetIsShown }
+    ensures shown_met { ShownIsMet }
+    ensures proper_shows_none { ProperShowsNone }
+    ensures proper_unmet { ProperIsUnmet }
+{
+    laws();
+}
+
+/// What the proofs of this crate need of the definitions of the crates below.
+pub(crate) fn laws()
+    ensures { Laws }
+{
+    evaluation_laws();
+    table_laws();
+}

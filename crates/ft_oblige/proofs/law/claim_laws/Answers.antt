@@ -1,5 +1,6 @@
 use Rattle.ft_oblige.proofs.law.claim_laws.Goals as goal
 use Rattle.ft_oblige.proofs.ReadLemmas.{sym_says, claim_tells, cell_says, definition_says}
+use Rattle.ft_oblige.proofs.LinkLemmas.{link_says}
 use Rattle.ft_oblige.proofs.MoveLemmas.{move_says}
 
 pub returns-clause-terms : goal.returns-clause-terms
@@ -16,3 +17,6 @@ returns-clause-definitions c = definition_says
 
 pub returns-clause-moves : goal.returns-clause-moves
 returns-clause-moves c = move_says
+
+pub returns-clause-links : goal.returns-clause-links
+returns-clause-links c = link_says
