@@ -14,6 +14,7 @@ use Rattle.ft_core.specs.declared.term.Cond.{Cond}
 use Rattle.ft_core.specs.meaning.Grids.{Cell, cells, row_cells}
 use Rattle.ft_mean.specs.meaning.Cells.{cell_holds, holding}
 use Rattle.ft_mean.specs.meaning.Value.{View, truth, value}
+use Rattle.ft_linear.specs.laws.Nodes.{list_any-map}
 use Rattle.ft_oblige.specs.declared.claim.Claim.{Claim}
 use Rattle.ft_oblige.specs.declared.claim.Claim.TheVariants.{Le, Lt, Not, And, Or}
 use Rattle.ft_oblige.specs.declared.claim.Sym.TheVariants.{Num}
@@ -274,10 +275,6 @@ module _ (S : Tables) (frame : Frame) (σ : ℕ → ℤ) where
             ∙ step.1,
       )
 
-  any-map : {A B : Type 0} (p : B → Bool) (f : A → B) (xs : List A) → list_any p (map f xs) ≡ list_any (λ x. p (f x)) xs
-  any-map p f [] = refl
-  any-map p f (x ∷ xs) = ap (λ b. p (f x) || b) (any-map p f xs)
-
   any-same : {A : Type 0} (p q : A → Bool) (xs : List A) → ((x : A) → p x ≡ q x) → list_any p xs ≡ list_any q xs
   any-same p q [] h = refl
   any-same p q (x ∷ xs) h = let more = any-same p q xs h in λ i. h x i || more i
@@ -292,7 +289,7 @@ module _ (S : Tables) (frame : Frame) (σ : ℕ → ℤ) where
       true-Or σ _
       ∙ (λ i. (two-true σ (map (row_some S frame) rs) ∙ ap (nat_le 2) (count-map (claim_true σ) (row_some S frame) rs
       ∙ count-same (λ r. claim_true σ (row_some S frame r)) HasCell rs some-row)) i
-      || ((true-Or σ (map (row_two S frame) rs) ∙ any-map (claim_true σ) (row_two S frame) rs
+      || ((true-Or σ (map (row_two S frame) rs) ∙ list_any-map (claim_true σ) (row_two S frame) rs
       ∙ any-same (λ r. claim_true σ (row_two S frame r)) HasTwo rs two-row) i || false))
       ∙ ap (λ b. nat_le 2 (count HasCell rs) || b) (or_none (list_any HasTwo rs))
       ∙ (two-of-rows rs).0
@@ -324,7 +321,7 @@ module _ (S : Tables) (frame : Frame) (σ : ℕ → ℤ) where
 
   pub range_says : (cs : List Cell) → claim_true σ (range_node S frame cs)
       ≡ list_any (λ cell. is_outside (slice_get S.vars cell.target) cell) cs
-  range_says cs = true-Or σ _ ∙ any-map (claim_true σ) (λ cell. outside S frame (slice_get S.vars cell.target) cell) cs
+  range_says cs = true-Or σ _ ∙ list_any-map (claim_true σ) (λ cell. outside S frame (slice_get S.vars cell.target) cell) cs
       ∙ any-same (λ cell. claim_true σ (outside S frame (slice_get S.vars cell.target) cell))
       (λ cell. is_outside (slice_get S.vars cell.target) cell) cs
       (λ cell. outside-says (slice_get S.vars cell.target) cell)

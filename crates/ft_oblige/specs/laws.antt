@@ -1,4 +1,5 @@
 pub mod ClaimLaws
 pub mod CoverLaws
 pub mod Equations
+pub mod FormulaLaws
 pub mod Laws

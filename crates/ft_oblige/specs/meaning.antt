@@ -1,6 +1,10 @@
+pub mod Areas
 pub mod Claims
 pub mod Coverage
+pub mod Forms
+pub mod Formulas
 pub mod Names
 pub mod Parts
+pub mod Points
 pub mod Shown
 pub mod Spans

@@ -1,5 +1,6 @@
 ghost use Rattle.ft_oblige.specs.laws.ClaimLaws.{TermsSay, ConditionsSay, CellsSay, DefinitionsSay, MovesSay, LinksSay};
 ghost use Rattle.ft_oblige.specs.laws.CoverLaws.{NodesSay, MetIsShown, ShownIsMet, ProperShowsNone, ProperIsUnmet};
+ghost use Rattle.ft_oblige.specs.laws.FormulaLaws.{PointsTell, NumbersMakePoints, TrueAlike};
 ghost use Rattle.ft_oblige.specs.laws.Laws.{Laws};
 
 use ft_mean::{evaluation_laws, table_laws};
@@ -34,3 +35,11 @@ pub(crate) fn laws()
     evaluation_laws();
     table_laws();
 }
+
+/// The two laws between claims and formulas: a point tells that each part is true for all numbers that have its values at the names,
+/// and numbers in their spans at which each part is true make a point. Parts are true alike at numbers that agree on these names.
+pub fn formula_laws()
+    ensures points { PointsTell }
+    ensures numbers { NumbersMakePoints }
+    ensures alike { TrueAlike }
+{}

@@ -1,9 +1,10 @@
 -- The value of each kind of term and the truth of each kind of claim over numbered names, by its parts.
-use Rattle.std.proofs.Common.{◌∙◌, sym, ap, refl}
-use Rattle.std.specs.Prelude.{◌≡◌, ℕ, ℤ, ◌+ℤ◌, ◌-ℤ◌, ◌*ℤ◌, neg_ℤ, int_le, int_lt, Bool, not, ◌||◌, List, [], ◌∷◌, map}
+use Rattle.std.proofs.Common.{◌∙◌, sym, ap}
+use Rattle.std.specs.Prelude.{◌≡◌, ℕ, ℤ, ◌+ℤ◌, ◌-ℤ◌, ◌*ℤ◌, neg_ℤ, int_le, int_lt, Bool, not, List}
 use Rattle.std.specs.List.{list_all, list_any}
 use Rattle.std.proofs.lemmas.List.Folds.{list_all-map}
 use Rattle.ft_base.specs.Division.{floor_of}
+use Rattle.ft_linear.specs.laws.Nodes.{list_any-map}
 use Rattle.ft_oblige.specs.declared.claim.Sym.{Sym, Sym-F, map-Sym, fold-Sym, roll-Sym, fold-roll-Sym}
 use Rattle.ft_oblige.specs.declared.claim.Sym.TheOpen as part
 use Rattle.ft_oblige.specs.declared.claim.Sym.TheVariants.{Num, Slot, Neg, Add, Sub, Times, Div, rolls-Num, rolls-Slot, rolls-Neg}
@@ -12,11 +13,6 @@ use Rattle.ft_oblige.specs.declared.claim.Claim.{Claim, Claim-F, map-Claim, fold
 use Rattle.ft_oblige.specs.declared.claim.Claim.TheOpen as layer
 use Rattle.ft_oblige.specs.declared.claim.Claim.TheVariants.{Le, Lt, Not, And, Or, rolls-Le, rolls-Lt, rolls-Not, rolls-And, rolls-Or}
 use Rattle.ft_oblige.specs.meaning.Claims.{sym_value, layer_sym_value, claim_true, layer_claim_true, itself}
-
--- what one image passes, and what is an image of one that passes
-pub list_any-map : {X Y : Type 0} (p : X → Bool) (h : Y → X) (ys : List Y) → list_any p (map h ys) ≡ list_any (λ y. p (h y)) ys
-list_any-map p h [] = refl
-list_any-map p h (y ∷ ys) = ap (λ b. p (h y) || b) (list_any-map p h ys)
 
 module _ (σ : ℕ → ℤ) where
   value-rolled : (e : Sym) (a_layer : Sym-F Sym) → roll-Sym a_layer ≡ e → sym_value σ e

@@ -1,0 +1,2 @@
+-- Equations of formulas as they are built.
+pub mod Raws
