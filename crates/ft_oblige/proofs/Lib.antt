@@ -1,9 +1,14 @@
 pub mod AreaLemmas
+pub mod CellTests
 pub mod ClaimLemmas
+pub mod CoverGood
+pub mod CoverPoints
+pub mod CoverSpans
 pub mod CoverageLemmas
 pub mod FormLemmas
 pub mod FormulaLemmas
 pub mod GatherLemmas
+pub mod GoodLemmas
 pub mod KernelLemmas
 pub mod LinkLemmas
 pub mod Lists

@@ -1,7 +1,8 @@
 -- Tests of the elements of a list, by their places.
 use Rattle.std.proofs.Common.{◌≡◌, ◌∙◌, sym, ap, subst, refl, ℕ, zero, suc, Bool, true, false, ◌||◌, List, [], ◌∷◌, ◌++◌, map, filter, Some}
-use Rattle.std.proofs.Common.{slice_get, ⊎_elim, true≢false}
-use Rattle.std.specs.List.{list_all, list_any}
+use Rattle.std.proofs.Common.{slice_get, ⊎_elim, true≢false, ◌⊎◌, inl, inr, length, ◌+◌, arith}
+use Rattle.std.specs.List.{Contains, list_all, list_any, flat_map, zip}
+use Rattle.std.proofs.lemmas.List.Elements.{Contains-append_left, Contains-append_right}
 use Rattle.std.proofs.lemmas.Bool.{and_parts, and_from, cases_Bool, cond-true, cond-false}
 use Rattle.std.proofs.lemmas.List.Folds.{list_all-map, list_all-append}
 use Rattle.std.proofs.lemmas.Option.{none-some, same_Some}
@@ -79,3 +80,35 @@ some_of p (x ∷ xs) (suc k) a e is = ap (λ b. p x || b) (some_of p xs k a e is
     or_true : (b : Bool) → (b || true) ≡ true
     or_true true = refl
     or_true false = refl
+
+-- an element of two lists joined
+pub of-append : {X : Type 0} (xs ys : List X) (i : ℕ) (x : X) → slice_get (xs ++ ys) i ≡ Some x
+    → (slice_get xs i ≡ Some x) ⊎ ((j : ℕ) × (i ≡ length xs + j) × (slice_get ys j ≡ Some x))
+of-append [] ys i x is = inr (i, omega arith, is)
+of-append (a ∷ xs) ys zero x is = inl is
+of-append (a ∷ xs) ys (suc i) x is = elim (of-append xs ys i x is) [ inl h ↦ inl h | inr (j, e, h) ↦ inr (j, omega arith, h) ]
+
+-- what one of the items has, all have together
+pub in_all : {A B : Type 0} (f : A → List B) (xs : List A) (k : ℕ) (a : A) (b : B) → slice_get xs k ≡ Some a → Contains (f a) b
+    → Contains (flat_map f xs) b
+in_all f [] k a b e c = absurd (none-some a e)
+in_all f (x ∷ xs) zero a b e c = Contains-append_left (f x) (flat_map f xs) b (subst (λ y. Contains (f y) b) (sym (same_Some x a e)) c)
+in_all f (x ∷ xs) (suc k) a b e c = Contains-append_right (f x) (flat_map f xs) b (in_all f xs k a b e c)
+
+pub of-mapped : {A B : Type 0} (f : A → B) (xs : List A) (i : ℕ) (b : B) → slice_get (map f xs) i ≡ Some b → (a : A)
+    × (slice_get xs i ≡ Some a) × (f a ≡ b)
+of-mapped f [] i b e = absurd (none-some b e)
+of-mapped f (x ∷ xs) zero b e = (x, refl, same_Some (f x) b e)
+of-mapped f (x ∷ xs) (suc i) b e = of-mapped f xs i b e
+
+pub mapped-at : {A B : Type 0} (f : A → B) (xs : List A) (i : ℕ) (a : A) → slice_get xs i ≡ Some a → slice_get (map f xs) i ≡ Some (f a)
+mapped-at f [] i a e = absurd (none-some a e)
+mapped-at f (x ∷ xs) zero a e = ap (λ y. Some (f y)) (same_Some x a e)
+mapped-at f (x ∷ xs) (suc i) a e = mapped-at f xs i a e
+
+pub zip-at : {A B : Type 0} (xs : List A) (ys : List B) (k : ℕ) (p : A × B) → slice_get (zip xs ys) k ≡ Some p → (slice_get xs k ≡ Some p.0)
+    × (slice_get ys k ≡ Some p.1)
+zip-at [] ys k p e = absurd (none-some p e)
+zip-at (x ∷ xs) [] k p e = absurd (none-some p e)
+zip-at (x ∷ xs) (y ∷ ys) zero p e = let same = same_Some (x, y) p e in (ap (λ q. Some q.0) same, ap (λ q. Some q.1) same)
+zip-at (x ∷ xs) (y ∷ ys) (suc k) p e = zip-at xs ys k p e

@@ -22,7 +22,7 @@ use Rattle.ft_oblige.specs.meaning.Names.{view}
 use Rattle.ft_oblige.specs.meaning.Parts.{link_of}
 use Rattle.ft_oblige.specs.meaning.Shown.{AreReadMemories}
 use Rattle.ft_oblige.specs.meaning.Spans.{InCoverSpans}
-use Rattle.ft_oblige.specs.states.Numbers.{cover_numbers}
+use Rattle.ft_oblige.specs.meaning.Numbers.{numbers_with, cover_numbers}
 use Rattle.ft_oblige.proofs.LinkLemmas.{link_says}
 use Rattle.ft_oblige.proofs.Lists.{at_place, every_image}
 use Rattle.ft_oblige.proofs.NumberLemmas.{number_now, number_kept, number_past, number_kept_past}
@@ -40,20 +40,26 @@ bit_within : (b : Bool) → IsWithin (pos 0, pos 1) (bit b)
 bit_within true = (omega (arith, ints), omega (arith, ints))
 bit_within false = (omega (arith, ints), omega (arith, ints))
 
+module _ (S : Tables) (V : View) (past : ℕ → ℤ) where
+  abbrev bits : ℕ → ℤ
+  bits m = bit (V.memory m)
+
+  abbrev W : View
+  W = view S (cover_frame S) (numbers_with S V past)
+
+  -- the numbers of a view tell it again
+  pub same_again : (r : Read) → IsAgeless S r → Same W V r
+  same_again (at_now x) on = number_now S V.now bits V.before past x on
+  same_again (at_before x) on = number_past S V.now bits V.before past x on
+  same_again (of_memory m) on = ap (λ z. int_eq z (pos 1)) (number_kept S V.now bits V.before past m on) ∙ bit_back (V.memory m)
+  same_again (of_age m) on = absurd on
+
 module _ (S : Tables) (V : View) where
   abbrev σ : ℕ → ℤ
   σ = cover_numbers S V
 
-  abbrev W : View
-  W = view S (cover_frame S) σ
-
-  -- the numbers of a view tell it again
-  pub cover_same : (r : Read) → IsAgeless S r → Same W V r
-  cover_same (at_now x) on = number_now S V.now (λ m. bit (V.memory m)) V.before (λ m. pos 0) x on
-  cover_same (at_before x) on = number_past S V.now (λ m. bit (V.memory m)) V.before (λ m. pos 0) x on
-  cover_same (of_memory m) on = ap (λ z. int_eq z (pos 1)) (number_kept S V.now (λ m. bit (V.memory m)) V.before (λ m. pos 0) m on)
-      ∙ bit_back (V.memory m)
-  cover_same (of_age m) on = absurd on
+  pub cover_same : (r : Read) → IsAgeless S r → Same (view S (cover_frame S) σ) V r
+  cover_same = same_again S V (λ m. pos 0)
 
   -- and are in their spans where the view is local
   pub cover_within : (reads : List Read) → IsLocal S reads V → InCoverSpans S σ
@@ -62,8 +68,8 @@ module _ (S : Tables) (V : View) where
     bits_now = λ m l. subst (IsWithin (pos 0, pos 1)) (sym (number_kept S V.now (λ m. bit (V.memory m)) V.before (λ m. pos 0) m l))
         (bit_within (V.memory m));
     past = λ x v is. subst (IsWithin v.range) (sym (cover_same (at_before x) (slice_get_within S.vars x v is))) (local.before x v is);
-    bits_past = λ m l. subst (IsWithin (pos 0, pos 1)) (sym (number_kept_past S V.now (λ m. bit (V.memory m)) V.before (λ m. pos 0) m))
-        (bit_within false);
+    bits_past = λ m l. subst (IsWithin (pos 0, pos 1))
+        (sym (number_kept_past S V.now (λ m. bit (V.memory m)) V.before (λ m. pos 0) m)) (bit_within false);
   }
 
 -- views that agree on what a memory reads, and on it, have it linked alike

@@ -4,7 +4,7 @@ use Rattle.std.specs.Prelude.{nat_lt}
 use Rattle.std.proofs.lemmas.Bool.{cond-true, cond-false, lt-ltb, le-ltb}
 use Rattle.ft_core.specs.declared.tables.Tables.{Tables}
 use Rattle.ft_oblige.specs.meaning.Names.{width, memo}
-use Rattle.ft_oblige.specs.states.Numbers.{numbers}
+use Rattle.ft_oblige.specs.meaning.Numbers.{numbers}
 
 module _ (S : Tables) (now kept_now past kept_past : ℕ → ℤ) where
   abbrev σ : ℕ → ℤ

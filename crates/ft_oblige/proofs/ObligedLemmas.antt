@@ -26,7 +26,7 @@ use Rattle.ft_oblige.specs.meaning.Areas.{Spans, quotient_span, with_spans, pair
 use Rattle.ft_oblige.specs.meaning.Areas.{layer_renumber, renumber, finished}
 use Rattle.ft_oblige.specs.meaning.Points.{IsPointOf}
 use Rattle.ft_oblige.specs.laws.FormulaLaws.{PointsTell}
-use Rattle.ft_oblige.proofs.Lists.{of_any, of_filter, of-filtered}
+use Rattle.ft_oblige.proofs.Lists.{of_any, of_filter, of-filtered, of-mapped, mapped-at}
 use Rattle.ft_oblige.proofs.UnknownLemmas.{AllIn, all-weaker, plus-in, minus-in, times-form-in, fill-below}
 use Rattle.ft_oblige.proofs.GatherLemmas.{place-found, append-assoc}
 use Rattle.ft_oblige.proofs.KernelLemmas.{AllOf, all-append, unknowns-Le, unknowns-And, of-factors, factors-of, raw-same, parts_low}
@@ -131,7 +131,7 @@ conjuncts-in P (e ∷ T) n own in_forms =
     (λ d a is. in_forms (suc d) a is)))
 
 -- a number of a range that passes a test stands in the filtered range
-in-filter : (p : ℕ → Bool) (from n u : ℕ) → from ≤ u → u < from + n → p u ≡ true → is_one_of (filter p (range_with_len from n)) u ≡ true
+pub in-filter : (p : ℕ → Bool) (from n u : ℕ) → from ≤ u → u < from + n → p u ≡ true → is_one_of (filter p (range_with_len from n)) u ≡ true
 in-filter p from zero u low high is = absurd (omega (arith, low, high))
 in-filter p from (suc n) u low high is = ⊎_elim
     (λ here.
@@ -159,11 +159,6 @@ value-in-place f us u is =
     let at = place-found (λ v. v == u) us is in
     let same = (Decides-eqb at.0 u).0 at.2 in
     get_or_from_slice_get (map f us) (place_in us u) (f u) (pos 0) (mapped-at f us (place_in us u) at.0 at.1 ∙ ap (λ v. Some (f v)) same)
-  where
-    mapped-at : {A B : Type 0} (f : A → B) (xs : List A) (i : ℕ) (a : A) → slice_get xs i ≡ Some a → slice_get (map f xs) i ≡ Some (f a)
-    mapped-at f [] i a e = absurd (none-some a e)
-    mapped-at f (x ∷ xs) zero a e = ap (λ y. Some (f y)) (same_Some x a e)
-    mapped-at f (x ∷ xs) (suc i) a e = mapped-at f xs i a e
 
 flat-map-append : {A B : Type 0} (f : A → List B) (xs ys : List A) → flat_map f (xs ++ ys) ≡ flat_map f xs ++ flat_map f ys
 flat-map-append f [] ys = refl
@@ -174,17 +169,6 @@ length-with-spans [] spans = omega arith
 length-with-spans (e ∷ T) spans =
     let more = length-with-spans T (spans ++ quotient_span spans e ∷ []) in let one = length_push spans (quotient_span spans e) in
     omega (arith, more, one)
-
-of-mapped : {A B : Type 0} (f : A → B) (xs : List A) (i : ℕ) (b : B) → slice_get (map f xs) i ≡ Some b → (a : A) × (slice_get xs i ≡ Some a)
-    × (f a ≡ b)
-of-mapped f [] i b e = absurd (none-some b e)
-of-mapped f (x ∷ xs) zero b e = (x, refl, same_Some (f x) b e)
-of-mapped f (x ∷ xs) (suc i) b e = of-mapped f xs i b e
-
-mapped-at : {A B : Type 0} (f : A → B) (xs : List A) (i : ℕ) (a : A) → slice_get xs i ≡ Some a → slice_get (map f xs) i ≡ Some (f a)
-mapped-at f [] i a e = absurd (none-some a e)
-mapped-at f (x ∷ xs) zero a e = ap (λ y. Some (f y)) (same_Some x a e)
-mapped-at f (x ∷ xs) (suc i) a e = mapped-at f xs i a e
 
 range-bound : (from n i u : ℕ) → slice_get (range_with_len from n) i ≡ Some u → u < from + n
 range-bound from zero i u e = absurd (none-some u e)
@@ -273,7 +257,8 @@ module _ (spans : Spans) (parts : List Claim) (good : list_all (λ (g : Collecte
         (λ u is. or_left _ _ (or_left _ _ is)) (all-self (flat_map unknowns_of raws) (flat_map unknowns_of raws) (λ u is. is))
 
     pairs_named : (d : ℕ) (e : Entry) → slice_get T d ≡ Some e → AllIn IsNamed e.0.factors
-    pairs_named d e is = all-weaker (λ u. is_one_of (pair_unknowns T) u ≡ true) IsNamed e.0.factors (λ u one. or_left _ _ (or_right _ _ one))
+    pairs_named d e is = all-weaker (λ u. is_one_of (pair_unknowns T) u ≡ true) IsNamed e.0.factors
+        (λ u one. or_left _ _ (or_right _ _ one))
         (pair-self T d e is)
 
     -- conditions hold alike for numbers that agree on the names that their formula has

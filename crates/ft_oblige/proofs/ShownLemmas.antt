@@ -23,7 +23,7 @@ use Rattle.ft_oblige.specs.meaning.Coverage.{range_node, links}
 use Rattle.ft_oblige.specs.meaning.Names.{Frame, view}
 use Rattle.ft_oblige.specs.meaning.Shown.{Shows, OutOfRange, AreReadMemories}
 use Rattle.ft_oblige.specs.meaning.Spans.{MeetsAll}
-use Rattle.ft_oblige.specs.states.Numbers.{cover_numbers}
+use Rattle.ft_oblige.specs.meaning.Numbers.{cover_numbers}
 use Rattle.ft_oblige.proofs.CoverageLemmas.{is_outside, range_says}
 use Rattle.ft_oblige.proofs.Lists.{of_filter, of-filtered, in-filtered, of_any, some_of}
 use Rattle.ft_oblige.proofs.LocalLemmas.{cover_same, cover_within, local_from, links_true}
@@ -229,3 +229,8 @@ proper_unmet laws S k table there ms are = (
   (λ unmet. shows_none S k table there (λ fault V local shown. let met = shown_is_met S k table there laws ms are fault V local shown in
       unmet fault met.numbers met.meets)),
 )
+
+-- views that agree on what a table reads show the same faults of it
+pub shown_again : Laws → (S : Tables) (k : ℕ) (table : Table) → slice_get S.tables k ≡ Some table → (U V : View)
+    → AllSame U V (grid_reads table.grid) → (fault : Fault) → Shows S fault table.grid V → Shows S fault table.grid U
+shown_again laws S k table there = shown_alike S k table there laws

@@ -3,3 +3,4 @@ pub mod CoverLaws
 pub mod Equations
 pub mod FormulaLaws
 pub mod Laws
+pub mod PointLaws

@@ -4,6 +4,7 @@ pub mod Coverage
 pub mod Forms
 pub mod Formulas
 pub mod Names
+pub mod Numbers
 pub mod Parts
 pub mod Points
 pub mod Shown

@@ -2,6 +2,7 @@ ghost use Rattle.ft_oblige.specs.laws.ClaimLaws.{TermsSay, ConditionsSay, CellsS
 ghost use Rattle.ft_oblige.specs.laws.CoverLaws.{NodesSay, MetIsShown, ShownIsMet, ProperShowsNone, ProperIsUnmet};
 ghost use Rattle.ft_oblige.specs.laws.FormulaLaws.{PointsTell, NumbersMakePoints, TrueAlike};
 ghost use Rattle.ft_oblige.specs.laws.Laws.{Laws};
+ghost use Rattle.ft_oblige.specs.laws.PointLaws.{PointsAreLocal, PointsShow, ShownHasPoint, ProperHasNoPoint};
 
 use ft_mean::{evaluation_laws, table_laws};
 
@@ -24,6 +25,18 @@ pub fn cover_laws()
     ensures shown_met { ShownIsMet }
     ensures proper_shows_none { ProperShowsNone }
     ensures proper_unmet { ProperIsUnmet }
+{
+    laws();
+}
+
+/// The three formulas of a table's coverage. Some local view has the values of a point, and at every view that has them the
+/// table shows the fault; where it shows the fault at a local view there is a point. So the table is proper exactly where
+/// none of the three has a point.
+pub fn point_laws()
+    ensures local { PointsAreLocal }
+    ensures show { PointsShow }
+    ensures has_point { ShownHasPoint }
+    ensures proper { ProperHasNoPoint }
 {
     laws();
 }

@@ -5,4 +5,4 @@ mod claim;
 mod law;
 
 pub use claim::{Claim, Sym};
-pub use law::{claim_laws, cover_laws, formula_laws};
+pub use law::{claim_laws, cover_laws, formula_laws, point_laws};

@@ -1,5 +1,5 @@
 -- What the names of two scans may stand for.
-use Rattle.std.specs.Prelude.{ℕ, ◌+◌, ◌≡◌, ◌<◌, ℤ, pos, IsTrue, List, length, Some, slice_get}
+use Rattle.std.specs.Prelude.{ℕ, ◌+◌, ◌≡◌, ◌<◌, ℤ, pos, IsTrue, List, length, Some, slice_get, ◌++◌, map}
 use Rattle.std.specs.List.{list_all}
 use Rattle.ft_base.specs.Interval.{IsWithin}
 use Rattle.ft_core.specs.declared.tables.Tables.{Tables}
@@ -28,3 +28,14 @@ pub record InCoverSpans (S : Tables) (σ : ℕ → ℤ) : Type 0 where
 pub record MeetsAll (S : Tables) (parts : List Claim) (σ : ℕ → ℤ) : Type 0 where
   pub spans : InCoverSpans S σ
   pub are : IsTrue (list_all (claim_true σ) parts)
+
+-- the span of each name of a scan, in order, where every memory is a bit
+abbrev pub bit_span : Memory → ℤ × ℤ
+bit_span m = (pos 0, pos 1)
+
+abbrev pub cover_scan_spans : Tables → List (ℤ × ℤ)
+cover_scan_spans S = map (λ v. v.range) S.vars ++ map bit_span S.memories
+
+-- of this scan and the scan before
+abbrev pub cover_spans : Tables → List (ℤ × ℤ)
+cover_spans S = cover_scan_spans S ++ cover_scan_spans S

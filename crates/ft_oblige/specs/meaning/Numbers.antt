@@ -12,6 +12,9 @@ numbers S now kept_now past kept_past n =
     else if nat_lt n (width S + length S.vars) then past (n - width S)
     else kept_past (n - (width S + length S.vars))
 
--- those of a view, where every memory is a bit
+-- those of a view, where every memory is a bit; a view has no memories of the scan before
+abbrev pub numbers_with : Tables → View → (kept_past : ℕ → ℤ) → ℕ → ℤ
+numbers_with S V kept_past = numbers S V.now (λ m. if V.memory m then pos 1 else pos 0) V.before kept_past
+
 abbrev pub cover_numbers : Tables → View → ℕ → ℤ
-cover_numbers S V = numbers S V.now (λ m. if V.memory m then pos 1 else pos 0) V.before (λ m. pos 0)
+cover_numbers S V = numbers_with S V (λ m. pos 0)
