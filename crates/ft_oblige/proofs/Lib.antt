@@ -1,4 +1,5 @@
 pub mod AreaLemmas
+pub mod BeginLemmas
 pub mod CellTests
 pub mod ClaimLemmas
 pub mod CoverGood
@@ -18,6 +19,7 @@ pub mod NumberLemmas
 pub mod ObligedLemmas
 pub mod ReadLemmas
 pub mod ReadsThere
+pub mod RisingLemmas
 pub mod ShapeLemmas
 pub mod ShownLemmas
 pub mod TableLemmas

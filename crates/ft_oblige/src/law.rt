@@ -1,10 +1,11 @@
 ghost use Rattle.ft_oblige.specs.laws.ClaimLaws.{TermsSay, ConditionsSay, CellsSay, DefinitionsSay, MovesSay, LinksSay};
 ghost use Rattle.ft_oblige.specs.laws.CoverLaws.{NodesSay, MetIsShown, ShownIsMet, ProperShowsNone, ProperIsUnmet};
-ghost use Rattle.ft_oblige.specs.laws.FormulaLaws.{PointsTell, NumbersMakePoints, TrueAlike};
+ghost use Rattle.ft_oblige.specs.laws.FormulaLaws.{PointsTell, NumbersMakePoints, TrueAlike, SettledAlike};
 ghost use Rattle.ft_oblige.specs.laws.Laws.{Laws};
 ghost use Rattle.ft_oblige.specs.laws.PointLaws.{PointsAreLocal, PointsShow, ShownHasPoint, ProperHasNoPoint};
 
 use ft_mean::{evaluation_laws, table_laws};
+use ft_settle::settling_law;
 
 /// What is claimed of numbered names says what terms, conditions, tables and memories mean at the view that the numbers tell.
 pub fn claim_laws()
@@ -51,8 +52,12 @@ pub(crate) fn laws()
 
 /// The two laws between claims and formulas: a point tells that each part is true for all numbers that have its values at the names,
 /// and numbers in their spans at which each part is true make a point. Parts are true alike at numbers that agree on these names.
+/// Settling the formula changes no truth.
 pub fn formula_laws()
     ensures points { PointsTell }
     ensures numbers { NumbersMakePoints }
     ensures alike { TrueAlike }
-{}
+    ensures settled { SettledAlike }
+{
+    settling_law();
+}

@@ -13,9 +13,9 @@ use Rattle.ft_linear.specs.meaning.Form.{LinView}
 use Rattle.ft_linear.specs.meaning.Truth.{itself}
 use Rattle.ft_settle.specs.meaning.Raw.{is_moderate, layer_moderate}
 use Rattle.ft_settle.specs.meaning.Settled.{forms_of, layer_atoms, atoms_in, placed, layer_placed, placed_form}
-use Rattle.ft_settle.specs.settling.Factors.{all_begin_well, layer_begins, begins_well}
 use Rattle.ft_settle.specs.laws.Raws.{folds}
-pub use Rattle.ft_settle.specs.laws.Raws.{WithRaw, bare_raw, InductiveRaw, raw_induction, raw-Le, raw-Not, raw-And, raw-Or}
+pub use Rattle.ft_settle.specs.laws.Raws.{WithRaw, bare_raw, InductiveRaw, raw_induction, raw-Le, raw-Not, raw-And, raw-Or, begins-Le}
+pub use Rattle.ft_settle.specs.laws.Raws.{begins-Not, begins-And, begins-Or}
 
 pub moderate-Le : (l : LinView) → is_moderate (Le l) ≡ nat_le (unsigned_abs l.constant) moderate_most
 unfolding is_moderate
@@ -32,22 +32,6 @@ moderate-And parts = folds Bool layer_moderate _ (layer.And parts) (rolls-And pa
 pub moderate-Or : (parts : List Raw) → is_moderate (Or parts) ≡ list_all is_moderate parts
 unfolding is_moderate
 moderate-Or parts = folds Bool layer_moderate _ (layer.Or parts) (rolls-Or parts) ∙ list_all-map itself is_moderate parts
-
-pub begins-Le : (l : LinView) → all_begin_well (Le l) ≡ begins_well l.factors
-unfolding all_begin_well
-begins-Le l = folds Bool layer_begins _ (layer.Le l) (rolls-Le l)
-
-pub begins-Not : (inner : Raw) → all_begin_well (Not inner) ≡ all_begin_well inner
-unfolding all_begin_well
-begins-Not inner = folds Bool layer_begins _ (layer.Not inner) (rolls-Not inner)
-
-pub begins-And : (parts : List Raw) → all_begin_well (And parts) ≡ list_all all_begin_well parts
-unfolding all_begin_well
-begins-And parts = folds Bool layer_begins _ (layer.And parts) (rolls-And parts) ∙ list_all-map itself all_begin_well parts
-
-pub begins-Or : (parts : List Raw) → all_begin_well (Or parts) ≡ list_all all_begin_well parts
-unfolding all_begin_well
-begins-Or parts = folds Bool layer_begins _ (layer.Or parts) (rolls-Or parts) ∙ list_all-map itself all_begin_well parts
 
 flat-map : {X Y : Type 0} (f : X → List Y) (xs : List X) → flat_map (λ ys. ys) (map f xs) ≡ flat_map f xs
 flat-map f [] = refl

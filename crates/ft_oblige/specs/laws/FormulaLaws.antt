@@ -2,6 +2,9 @@
 use Rattle.std.specs.Prelude.{◌≡◌, ◌<◌, ℕ, ℤ, IsTrue, List, length, map}
 use Rattle.std.specs.List.{list_all}
 use Rattle.ft_linear.specs.meaning.Form.{InArea, values_at}
+use Rattle.ft_linear.specs.meaning.Formula.{truth_at}
+use Rattle.ft_settle.specs.meaning.Raw.{raw_truth}
+use Rattle.ft_settle.specs.meaning.Settled.{settled}
 use Rattle.ft_oblige.specs.declared.claim.Claim.{Claim}
 use Rattle.ft_oblige.specs.meaning.Areas.{Spans, is_used, used, place_in, finished}
 use Rattle.ft_oblige.specs.meaning.Claims.{claim_true}
@@ -33,3 +36,8 @@ abbrev pub TrueAlike : Type 0
 TrueAlike = (spans : Spans) (parts : List Claim) → AreGood spans parts → (σ τ : ℕ → ℤ)
     → ((u : ℕ) → u < length spans → IsTrue (is_used (length spans) parts u) → σ u ≡ τ u)
     → IsTrue (list_all (claim_true σ) parts) → IsTrue (list_all (claim_true τ) parts)
+
+-- the settled formula of some parts is as true as the formula, at every point
+abbrev pub SettledAlike : Type 0
+SettledAlike = (spans : Spans) (parts : List Claim) (x : ℕ → ℤ) → truth_at (settled (finished spans parts).formula) x
+    ≡ raw_truth x (finished spans parts).formula

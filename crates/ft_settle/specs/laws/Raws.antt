@@ -1,4 +1,4 @@
--- Formulas as they are built by their parts: induction, and the truth of each kind of node.
+-- Formulas as they are built by their parts: induction, and the equations of each kind of node.
 use Rattle.std.proofs.Common.{◌≡◌, ◌∙◌, sym, ap, subst, ℕ, ℤ, pos, Bool, not, List, map}
 use Rattle.std.specs.Prelude.{int_le}
 use Rattle.std.specs.List.{list_all, list_any}
@@ -9,7 +9,7 @@ use Rattle.ft_linear.specs.meaning.Truth.{itself}
 use Rattle.ft_settle.specs.declared.raw.Raw.{Raw, Raw-F, map-Raw, fold-Raw, roll-Raw, fold-roll-Raw, ind-Raw}
 use Rattle.ft_settle.specs.declared.raw.Raw.TheOpen as layer
 use Rattle.ft_settle.specs.declared.raw.Raw.TheVariants.{Le, Not, And, Or, rolls-Le, rolls-Not, rolls-And, rolls-Or}
-use Rattle.ft_settle.specs.meaning.Raw.{raw_truth, layer_raw_truth}
+use Rattle.ft_settle.specs.meaning.Raw.{raw_truth, layer_raw_truth, all_begin_well, layer_begins, begins_well}
 
 -- a formula of which P holds
 abbrev pub WithRaw : (Raw → Type 0) → Type 0
@@ -55,3 +55,19 @@ module _ (x : ℕ → ℤ) where
   pub raw-Or : (parts : List Raw) → raw_truth x (Or parts) ≡ list_any (raw_truth x) parts
   unfolding raw_truth
   raw-Or parts = folds Bool (layer_raw_truth x) _ (layer.Or parts) (rolls-Or parts) ∙ list_any-map itself (raw_truth x) parts
+
+pub begins-Le : (l : LinView) → all_begin_well (Le l) ≡ begins_well l.factors
+unfolding all_begin_well
+begins-Le l = folds Bool layer_begins _ (layer.Le l) (rolls-Le l)
+
+pub begins-Not : (inner : Raw) → all_begin_well (Not inner) ≡ all_begin_well inner
+unfolding all_begin_well
+begins-Not inner = folds Bool layer_begins _ (layer.Not inner) (rolls-Not inner)
+
+pub begins-And : (parts : List Raw) → all_begin_well (And parts) ≡ list_all all_begin_well parts
+unfolding all_begin_well
+begins-And parts = folds Bool layer_begins _ (layer.And parts) (rolls-And parts) ∙ list_all-map itself all_begin_well parts
+
+pub begins-Or : (parts : List Raw) → all_begin_well (Or parts) ≡ list_all all_begin_well parts
+unfolding all_begin_well
+begins-Or parts = folds Bool layer_begins _ (layer.Or parts) (rolls-Or parts) ∙ list_all-map itself all_begin_well parts
