@@ -9,10 +9,10 @@ use Rattle.std.proofs.lemmas.List.{length_push}
 use Rattle.std.proofs.lemmas.Option.{slice_get_within, slice_get-get_or}
 use Rattle.ft_base.specs.Division.{floor_of}
 use Rattle.ft_base.specs.Interval.{IsWithin}
-use Rattle.ft_oblige.proofs.Whole.{floor-at}
+use Rattle.ft_oblige.proofs.Arithmetic.{floor-at}
 use Rattle.ft_core.specs.laws.Places.{of-push}
 use Rattle.ft_linear.specs.meaning.Form.{Factor, sum_at, form_at, InArea, span_at, least, most, low_end, high_end}
-use Rattle.ft_oblige.proofs.Whole.{times-up, times-down, under-floor}
+use Rattle.ft_oblige.proofs.Arithmetic.{times-up, times-down, under-floor}
 use Rattle.ft_oblige.specs.meaning.Forms.{Entries}
 use Rattle.ft_oblige.specs.meaning.Formulas.{set_at, fill}
 use Rattle.ft_oblige.specs.meaning.Areas.{Spans, quotient_span, with_spans}

@@ -8,7 +8,7 @@ use Rattle.std.proofs.lemmas.Bool.{cases_Bool, cond-true, cond-false}
 use Rattle.std.proofs.lemmas.Bool.Decides.{Decides-int_eq, Decides-eqb}
 use Rattle.std.proofs.Math.IntN.{zero-*ℤ, *ℤ_comm, suc_ℤ-*ℤ}
 use Rattle.ft_linear.specs.meaning.Form.{Factor, LinView, sum_at, form_at}
-use Rattle.ft_oblige.proofs.Whole.{add-mul, mul-add, neg-mul}
+use Rattle.ft_oblige.proofs.Arithmetic.{add-mul, mul-add, neg-mul}
 use Rattle.ft_oblige.specs.meaning.Forms.{constant_form, unknown, with_front, with_factor, with_factors, plus, times_factors, times, minus}
 
 mul-assoc-pos : (t : ℕ) (f y : ℤ) → (pos t *ℤ f) *ℤ y ≡ pos t *ℤ (f *ℤ y)

@@ -6,7 +6,7 @@ use Rattle.std.specs.List.{list_all, list_any}
 use Rattle.std.proofs.lemmas.Int.{ints}
 use Rattle.std.proofs.lemmas.Bool.{and_parts, and_from}
 use Rattle.ft_base.specs.Division.{floor_of}
-use Rattle.ft_oblige.proofs.Whole.{floor-at, floor-only}
+use Rattle.ft_oblige.proofs.Arithmetic.{floor-at, floor-only}
 use Rattle.ft_linear.specs.meaning.Form.{LinView, form_at}
 use Rattle.ft_settle.specs.meaning.Raw.{raw_truth}
 use Rattle.ft_settle.specs.declared.raw.Raw.{Raw}
