@@ -18,7 +18,8 @@ use Rattle.ft_linear.specs.meaning.Form.{Factor, LinView}
 use Rattle.ft_settle.specs.declared.raw.Raw.{Raw}
 use Rattle.ft_settle.specs.meaning.Canonical.{AreCanonical, IsCanonical, canonical, divides_all, gcd_of, greatest_divisor, is_positive}
 use Rattle.ft_settle.specs.meaning.Settled.{atoms_in, forms_of, same_form, with_form, with_forms}
-use Rattle.ft_settle.specs.settling.Factors.{all_begin_well, begins_well, quotient_of}
+use Rattle.ft_settle.specs.meaning.Raw.{all_begin_well, begins_well}
+use Rattle.ft_settle.specs.settling.Factors.{quotient_of}
 use Rattle.ft_settle.proofs.CanonicalLemmas.{DividesEach, abs-some, exact, gcd-divides, no-zero, not-zero, of-test, quotient-some}
 use Rattle.ft_settle.proofs.CanonicalLemmas.{quotients-are, signed-some, test-of}
 use Rattle.ft_settle.proofs.RawLemmas.{WithRaw, bare_raw, InductiveRaw, raw_induction, begins-Le, begins-Not, begins-And, begins-Or}

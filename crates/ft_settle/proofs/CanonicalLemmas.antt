@@ -16,7 +16,8 @@ use Rattle.ft_linear.specs.meaning.Forced.{same_bool}
 use Rattle.ft_linear.specs.meaning.Form.{Factor, LinView, AreRising, IsSmall, sum_at, scaled, form_at}
 use Rattle.ft_linear.specs.meaning.Rules.{literal_form}
 use Rattle.ft_settle.specs.meaning.Canonical.{divides_all, greatest_divisor, gcd_of, divided, canonical, is_positive}
-use Rattle.ft_settle.specs.settling.Factors.{begins_well, quotient_of}
+use Rattle.ft_settle.specs.meaning.Raw.{begins_well}
+use Rattle.ft_settle.specs.settling.Factors.{quotient_of}
 use Rattle.ft_linear.specs.laws.Nodes.{map-map}
 use Rattle.std.proofs.Math.IntN.{*ℤ-zero, *ℤ-negsuc}
 use Rattle.ft_linear.specs.laws.Forms.{LiteralsHold, DividedHolds, QuotientIsExact}

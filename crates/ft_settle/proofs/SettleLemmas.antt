@@ -23,7 +23,7 @@ use Rattle.ft_settle.specs.meaning.Canonical.{canonical, is_positive}
 use Rattle.ft_settle.specs.meaning.Raw.{raw_truth}
 use Rattle.ft_settle.specs.meaning.Settled.{same_factor, same_form, with_form, with_forms, atoms_in, forms_of, place_of, placed}
 use Rattle.ft_settle.specs.meaning.Settled.{placed_form}
-use Rattle.ft_settle.specs.settling.Factors.{all_begin_well, begins_well}
+use Rattle.ft_settle.specs.meaning.Raw.{all_begin_well, begins_well}
 use Rattle.ft_linear.specs.laws.Nodes.{list_any-map, truth-At, truth-Not, truth-And, truth-Or, below-At, below-Not, below-And, below-Or}
 use Rattle.ft_settle.proofs.CanonicalLemmas.{canonical-same}
 use Rattle.ft_settle.proofs.RawLemmas.{WithRaw, bare_raw, InductiveRaw, raw_induction, raw-Le, raw-Not, raw-And, raw-Or, begins-Le}

@@ -2,8 +2,10 @@
 #![tactic(auto)]
 
 mod canonical;
+mod law;
 mod raw;
 mod settling;
 
+pub use law::settling_law;
 pub use raw::Raw;
 pub use settling::{is_moderate, settle};

@@ -9,7 +9,7 @@ ghost use Rattle.ft_settle.specs.meaning.Raw.{is_moderate, moderate_most, raw_tr
 ghost use Rattle.ft_settle.specs.meaning.Canonical.{IsCanonical, canonical};
 ghost use Rattle.ft_settle.specs.meaning.Settled.{AreFirstOccurrences, atoms_in, forms_of, place_of, placed, placed_form, same_form};
 ghost use Rattle.ft_settle.specs.meaning.Settled.{settled, with_form, with_forms};
-ghost use Rattle.ft_settle.specs.settling.Factors.{all_begin_well, begins_well};
+ghost use Rattle.ft_settle.specs.meaning.Raw.{all_begin_well, begins_well};
 
 use crate::canonical::{canonical, is_positive, same_form};
 use crate::raw::Raw;

@@ -1,7 +1,8 @@
--- Formulas as they are built: their truth at points, and how great their constants may be.
-use Rattle.std.specs.Prelude.{ℕ, ℤ, pos, int_le, nat_le, not, Bool, unsigned_abs}
+-- Formulas as they are built: their truth at points, how great their constants may be, and how their forms begin.
+use Rattle.std.specs.Prelude.{ℕ, ℤ, pos, int_le, nat_le, not, Bool, true, List, [], ◌∷◌, unsigned_abs}
+use Rattle.std.specs.Ordering.{int_eq}
 use Rattle.std.specs.List.{list_all, list_any}
-use Rattle.ft_linear.specs.meaning.Form.{form_at}
+use Rattle.ft_linear.specs.meaning.Form.{Factor, form_at}
 use Rattle.ft_linear.specs.meaning.Truth.{itself}
 use Rattle.ft_settle.specs.declared.raw.Raw.{Raw, Raw-F, fold-Raw}
 use Rattle.ft_settle.specs.declared.raw.Raw.TheOpen as layer
@@ -29,3 +30,17 @@ layer_moderate (layer.Or parts) = list_all itself parts
 
 unfoldable pub is_moderate : Raw → Bool
 is_moderate = fold-Raw Bool layer_moderate
+
+-- no form begins with a factor of 0, which holds of each form that a program has
+abbrev pub begins_well : List Factor → Bool
+begins_well [] = true
+begins_well (f ∷ fs) = not (int_eq f.1 (pos 0))
+
+abbrev pub layer_begins : Raw-F Bool → Bool
+layer_begins (layer.Le l) = begins_well l.factors
+layer_begins (layer.Not inner) = inner
+layer_begins (layer.And parts) = list_all itself parts
+layer_begins (layer.Or parts) = list_all itself parts
+
+unfoldable pub all_begin_well : Raw → Bool
+all_begin_well = fold-Raw Bool layer_begins

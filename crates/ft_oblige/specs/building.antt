@@ -1,0 +1,2 @@
+-- What the steps of building a formula compute with.
+pub mod Pairing

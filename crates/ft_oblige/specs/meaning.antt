@@ -1,0 +1,11 @@
+pub mod Areas
+pub mod Claims
+pub mod Coverage
+pub mod Forms
+pub mod Formulas
+pub mod Names
+pub mod Numbers
+pub mod Parts
+pub mod Points
+pub mod Shown
+pub mod Spans
