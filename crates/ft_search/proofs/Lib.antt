@@ -1,0 +1,5 @@
+pub mod AreaLemmas
+pub mod HalvingLemmas
+pub mod ReadingLemmas
+pub mod TurnLemmas
+pub mod WalkLemmas
