@@ -1,4 +1,5 @@
 pub mod AreaLemmas
+pub mod BudgetLemmas
 pub mod HalvingLemmas
 pub mod ReadingLemmas
 pub mod TurnLemmas

@@ -3,6 +3,7 @@
 
 mod halving;
 mod kept;
+mod law;
 mod points;
 mod reading;
 mod room;
@@ -10,6 +11,7 @@ mod searching;
 mod spent;
 mod turns;
 
+pub use law::search_laws;
 pub use room::Room;
 pub use searching::{Found, search};
 pub use spent::SpentTree;
