@@ -1,0 +1,6 @@
+pub mod AreaLemmas
+pub mod BudgetLemmas
+pub mod HalvingLemmas
+pub mod ReadingLemmas
+pub mod TurnLemmas
+pub mod WalkLemmas

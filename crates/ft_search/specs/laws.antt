@@ -1,0 +1,2 @@
+-- Laws of spent trees.
+pub mod Budget

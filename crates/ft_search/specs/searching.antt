@@ -1,0 +1,6 @@
+-- How a search walks over the parts, and what its room holds.
+pub mod Kept
+pub mod Single
+pub mod Turn
+pub mod Walk
+pub mod Space
