@@ -25,7 +25,7 @@ use Rattle.ft_measure.specs.meaning.Measures.{of_sum, of_values, product_size, q
 use Rattle.ft_measure.specs.laws.Bounded.{IsBounded}
 use Rattle.ft_measure.specs.laws.Layers.{measure-Num, measure-Name, measure-Truth, measure-Prev, measure-Age, measure-Not, measure-Neg}
 use Rattle.ft_measure.specs.laws.Layers.{measure-Two}
-use Rattle.ft_measure.proofs.BoundLemmas.{abs-add, abs-sub, abs-neg, abs-div}
+use Rattle.ft_measure.proofs.SizeLemmas.{IsAdditive, sum_additive, difference_additive, negation_same, quotient_at_most}
 
 or-right : (a b : Bool) → (a || b) ≡ false → b ≡ false
 or-right true b e = cc e
@@ -69,9 +69,8 @@ both-true a b p q = rw (p, q) refl
 sized-along : (x y : ℤ) (n : ℕ) → x ≡ y → unsigned_abs x ≤ n → unsigned_abs y ≤ n
 sized-along x y n e h = let P : ℤ → Type 0 = λ z. unsigned_abs z ≤ n in subst P e h
 
-pub sum-kept : (f : ℤ → ℤ → ℤ) → ((x y : ℤ) (m n : ℕ) → unsigned_abs x ≤ m → unsigned_abs y ≤ n → unsigned_abs (f x y) ≤ m + n)
-    → (a b : Measure) → IsBounded a → IsBounded b → IsKept (a.constant && b.constant) (both_values f a.value b.value)
-    (both_sizes a.size b.size)
+pub sum-kept : (f : ℤ → ℤ → ℤ) → IsAdditive f → (a b : Measure) → IsBounded a → IsBounded b
+    → IsKept (a.constant && b.constant) (both_values f a.value b.value) (both_sizes a.size b.size)
 sum-kept f least a b ha hb x e =
     let parts = both-parts f a.value b.value x e in
     let p = ha.sized parts.0 parts.2 in
@@ -115,7 +114,7 @@ negation-kept a ha x e =
       ha.constant part.0 part.1,
       n.0,
       n.1 ∙ ap (λ m. Some m) (kept-cap n.0 n.3),
-      sized-along (neg_ℤ part.0) x n.0 part.2 (rw (abs-neg part.0) n.2),
+      sized-along (neg_ℤ part.0) x n.0 part.2 (rw (negation_same part.0) n.2),
     )
 
 quotient-parts : (v w : Option ℤ) (x : ℤ) → quotient v w ≡ Some x
@@ -139,7 +138,7 @@ quotient-kept a b ha hb x e =
       n.1 ∙ ap (λ m. Some m) (kept-cap n.0 n.3),
       sized-along (int_div_euclid parts.0 parts.1) x n.0 parts.5 (at-most (unsigned_abs (int_div_euclid parts.0 parts.1))
           (unsigned_abs parts.0) n.0
-          (abs-div parts.0 parts.1 parts.4) n.2),
+          (quotient_at_most parts.0 parts.1 parts.4) n.2),
     )
 
 none-kept : (constant : Bool) (s : Option ℕ) → IsKept constant None s
@@ -197,8 +196,8 @@ age-bounded (Some (Block place)) = unmeasured-bounded
 age-bounded (Some (Invariant block fact)) = unmeasured-bounded
 
 pub operator-bounded : (o : Op) (a b : Measure) → IsBounded a → IsBounded b → IsBounded (of_operator o a b)
-operator-bounded op.Add a b ha hb = joined-bounded _ _ _ _ (sum-kept ◌+ℤ◌ abs-add a b ha hb)
-operator-bounded op.Sub a b ha hb = joined-bounded _ _ _ _ (sum-kept ◌-ℤ◌ abs-sub a b ha hb)
+operator-bounded op.Add a b ha hb = joined-bounded _ _ _ _ (sum-kept ◌+ℤ◌ sum_additive a b ha hb)
+operator-bounded op.Sub a b ha hb = joined-bounded _ _ _ _ (sum-kept ◌-ℤ◌ difference_additive a b ha hb)
 operator-bounded op.Mul a b ha hb = joined-bounded _ _ _ _ (product-kept a b ha hb)
 operator-bounded op.Div a b ha hb = joined-bounded _ _ _ _ (quotient-kept a b ha hb)
 operator-bounded op.Or a b ha hb = unmeasured-bounded

@@ -1,4 +1,4 @@
-pub mod BoundLemmas
 pub mod BoundedLemmas
 pub mod EnvLemmas
+pub mod SizeLemmas
 pub mod SlopeLemmas
