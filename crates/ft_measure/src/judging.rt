@@ -14,8 +14,8 @@ pub struct Slopes<'c> {
     pub cards: &'c Cards,
 }
 
-// Whether there is a slope.
-fn none_or(first: Option<Slope>) -> Result<(), Stop<Slope>>
+// The slope that was found, where there is one.
+fn found(first: Option<Slope>) -> Result<(), Stop<Slope>>
     ensures { Answers result first }
 {
     match first {
@@ -29,7 +29,7 @@ impl<'c> Slopes<'c> {
     fn judge(&self, expr: &Expr) -> Result<(), Stop<Slope>>
         ensures { Answers result (slope_in (under self.now.cards.now) expr.now) }
     {
-        none_or(measure_expr(self.cards, expr).first)
+        found(measure_expr(self.cards, expr).first)
     }
 }
 

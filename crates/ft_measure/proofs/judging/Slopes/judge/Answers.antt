@@ -5,4 +5,4 @@ use Rattle.ft_measure.specs.declared.slope.Slope.{Slope}
 use Rattle.ft_measure.proofs.judging.Slopes.judge.Goals as goal
 
 pub returns : goal.returns
-returns c = subst (λ (first : Option Slope). Answers c.none_or.result first) (c.measure_expr.ensures.first Anything) c.none_or.ensures
+returns c = subst (λ (first : Option Slope). Answers c.found.result first) (c.measure_expr.ensures.first Anything) c.found.ensures
