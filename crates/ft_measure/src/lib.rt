@@ -14,7 +14,7 @@ mod slope;
 mod values;
 
 pub use judging::{Slopes, judge_slopes};
-pub use law::values_bounded;
+pub use law::{linear_is_small, values_bounded};
 pub use measure::Measure;
 pub use measuring::{Measured, measure_expr};
 pub use slope::{Slope, Why};
