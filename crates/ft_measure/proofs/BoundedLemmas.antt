@@ -1,6 +1,6 @@
 -- The value of a constant term is at most its size.
-use Rattle.std.proofs.Common.{◌≡◌, ◌∙◌, sym, ap, subst, refl, ℕ, ◌+◌, ◌*◌, ◌≤◌, ◌⊎◌, inl, inr, ℤ, pos, ◌+ℤ◌, ◌-ℤ◌, neg_ℤ}
-use Rattle.std.proofs.Common.{Bool, true, false, ◌||◌, ◌&&◌, Option, Some, None, arith, IsTrue, min, if◌then◌else◌}
+use Rattle.std.proofs.Common.{◌≡◌, ◌∙◌, sym, ap, subst, refl, ℕ, ◌+◌, ◌*◌, ◌≤◌, inl, inr, ℤ, pos, ◌+ℤ◌, ◌-ℤ◌, neg_ℤ}
+use Rattle.std.proofs.Common.{Bool, true, false, ◌||◌, ◌&&◌, Option, Some, None, arith, IsTrue, if◌then◌else◌}
 use Rattle.std.specs.Prelude.{IfSome, unsigned_abs, int_le, nat_lt, ◌*ℤ◌, option_map}
 use Rattle.std.specs.Int.{int_div_euclid}
 use Rattle.std.proofs.lemmas.Bool.{cases_Bool}
@@ -19,9 +19,9 @@ use Rattle.ft_names.specs.declared.card.Values.{Values}
 use Rattle.ft_names.specs.declared.card.Values.TheVariants.{Numbers, Truths, Members, Untyped}
 use Rattle.ft_names.specs.meaning.Cards.{Env}
 use Rattle.ft_measure.specs.declared.measure.Measure.{Measure}
-use Rattle.ft_measure.specs.meaning.Measures.{both_sizes, both_values, capped, is_above, joined, limit, magnitude, measure, of_age}
-use Rattle.ft_measure.specs.meaning.Measures.{of_bounds, of_constant, of_name, of_negation, of_operator, of_prev, of_product, of_quotient}
-use Rattle.ft_measure.specs.meaning.Measures.{of_sum, of_values, product_size, quotient, unmeasured}
+use Rattle.ft_measure.specs.meaning.Measures.{both_sizes, both_values, capped, is_above, joined, limit, measure, of_age}
+use Rattle.ft_measure.specs.meaning.Measures.{of_bounds, of_constant, of_name, of_operator, of_prev, of_product}
+use Rattle.ft_measure.specs.meaning.Measures.{of_values, product_size, quotient, unmeasured}
 use Rattle.ft_measure.specs.laws.Bounded.{IsBounded}
 use Rattle.ft_measure.specs.laws.Layers.{measure-Num, measure-Name, measure-Truth, measure-Prev, measure-Age, measure-Not, measure-Neg}
 use Rattle.ft_measure.specs.laws.Layers.{measure-Two}

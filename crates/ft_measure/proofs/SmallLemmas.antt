@@ -1,8 +1,7 @@
 -- Where no part of an expression is at fault, none is large.
-use Rattle.std.proofs.Common.{◌≡◌, ◌∙◌, sym, ap, subst, refl, ℕ, ℤ, pos, neg_ℤ, ◌+ℤ◌, ◌-ℤ◌, Bool, true, false, ◌||◌, ◌&&◌, List, Option}
+use Rattle.std.proofs.Common.{◌≡◌, ◌∙◌, sym, ap, subst, refl, ℕ, ℤ, pos, Bool, true, false, ◌||◌, List, Option}
 use Rattle.std.proofs.Common.{Some, None}
 use Rattle.std.proofs.Common.{if◌then◌else◌}
-use Rattle.std.specs.Prelude.{◌*ℤ◌, option_map}
 use Rattle.std.specs.Option.{option_or}
 use Rattle.ft_base.specs.declared.place.Place.{Place}
 use Rattle.ft_tree.specs.declared.expr.Op.{Op}
@@ -29,7 +28,7 @@ use Rattle.ft_measure.specs.meaning.Measures.{of_values, unmeasured}
 use Rattle.ft_measure.specs.meaning.Slopes.{operator_fault, slope, slope_at}
 use Rattle.ft_measure.specs.laws.Bounded.{IsSmall}
 use Rattle.ft_measure.specs.laws.Layers.{measure-Num, measure-Name, measure-Truth, measure-Prev, measure-Age, measure-Not, measure-Neg}
-use Rattle.ft_measure.specs.laws.Layers.{measure-Two, slope-Num, slope-Name, slope-Prev, slope-Age, slope-Neg, slope-Two}
+use Rattle.ft_measure.specs.laws.Layers.{measure-Two, slope-Num, slope-Name, slope-Prev, slope-Age, slope-Two}
 
 or-first : {Y : Type 0} (a b : Option Y) → option_or a b ≡ None → a ≡ None
 or-first None b e = refl

@@ -1,5 +1,5 @@
 //! The measures of expressions without operands.
-ghost use Rattle.std.specs.Prelude.{◌≡◌, Some, max, pos, unsigned_abs};
+ghost use Rattle.std.specs.Prelude.{◌≡◌, pos};
 ghost use Rattle.ft_measure.specs.meaning.Measures.{of_age, of_bounds, of_constant, of_name, of_prev, of_values};
 
 use crate::measure::{LIMIT, Measure, capped, joined, unmeasured};

@@ -1,5 +1,5 @@
 -- The measure of an expression by those of its operands, and what is wrong at its own place.
-use Rattle.std.proofs.Common.{◌≡◌, ◌∙◌, sym, ap, ℕ, pos, Bool, List, Option, None}
+use Rattle.std.proofs.Common.{◌≡◌, ◌∙◌, sym, ap, ℕ, pos, Bool, List, None}
 use Rattle.ft_base.specs.declared.place.Place.{Place}
 use Rattle.ft_tree.specs.declared.expr.Op.{Op}
 use Rattle.ft_tree.specs.declared.expr.Expr.{Expr, Expr-F, map-Expr, out-Expr, roll-Expr, fold-roll-Expr}
@@ -12,7 +12,6 @@ use Rattle.ft_measure.specs.declared.measure.Measure.{Measure}
 use Rattle.ft_measure.specs.meaning.Measures.{measure, measure_layer, of_age, of_constant, of_name, of_negation, of_operator, of_prev}
 use Rattle.ft_measure.specs.meaning.Measures.{unmeasured}
 use Rattle.ft_measure.specs.meaning.Slopes.{operator_fault, slope, slope_at, slope_layer}
-use Rattle.ft_measure.specs.declared.slope.Slope.{Slope}
 
 of_layer : (env : Env) (e : Expr) (a_layer : Expr-F Expr) → roll-Expr a_layer ≡ e
     → measure env e ≡ measure_layer env (map-Expr Expr Measure (measure env) a_layer)

@@ -1,5 +1,5 @@
 -- What is wrong with a term at one place: a product, a factor, a divisor, a size.
-use Rattle.std.specs.Prelude.{ℕ, nat_lt, ℤ, pos, int_le, Bool, true, false, ◌&&◌, Option, Some, None, if◌then◌else◌}
+use Rattle.std.specs.Prelude.{ℕ, nat_lt, ℤ, pos, int_le, Bool, false, ◌&&◌, Option, Some, None, if◌then◌else◌}
 use Rattle.ft_base.specs.declared.place.Place.{Place}
 use Rattle.ft_tree.specs.declared.expr.Op.{Op}
 use Rattle.ft_tree.specs.declared.expr.Op.TheVariants as op
