@@ -1,0 +1,5 @@
+pub mod BoundedLemmas
+pub mod EnvLemmas
+pub mod SizeLemmas
+pub mod SlopeLemmas
+pub mod SmallLemmas
