@@ -1,2 +1,3 @@
+pub mod counting
 pub mod laws
 pub mod meaning

@@ -1,5 +1,5 @@
 -- The conditions that expressions spell. Each expression has one: a part that spells none counts as false.
-use Rattle.std.specs.Prelude.{ℤ, pos, Bool, Option, Some, None, if◌then◌else◌}
+use Rattle.std.specs.Prelude.{pos, Bool, Option, Some, None, if◌then◌else◌}
 use Rattle.ft_tree.specs.declared.expr.Op.{Op}
 use Rattle.ft_tree.specs.declared.expr.Op.TheVariants as op
 use Rattle.ft_tree.specs.declared.expr.Expr.{Expr, Expr-F, para-Expr}

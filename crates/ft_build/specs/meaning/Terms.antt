@@ -1,5 +1,5 @@
 -- The terms that expressions spell. Each expression has one: a part that spells none counts as the number 0.
-use Rattle.std.specs.Prelude.{ℕ, nat_le, ℤ, pos, neg_ℤ, ◌+ℤ◌, ◌-ℤ◌, ◌*ℤ◌, int_le, unsigned_abs, Bool, true, false, List, Option, Some, None}
+use Rattle.std.specs.Prelude.{nat_le, ℤ, pos, neg_ℤ, ◌+ℤ◌, ◌-ℤ◌, ◌*ℤ◌, int_le, unsigned_abs, Bool, true, false, Option, Some, None}
 use Rattle.std.specs.Prelude.{if◌then◌else◌}
 use Rattle.ft_base.specs.Division.{floor_of}
 use Rattle.ft_tree.specs.declared.expr.Op.{Op}
