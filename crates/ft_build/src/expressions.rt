@@ -1,7 +1,7 @@
 ghost use Rattle.std.specs.Prelude.{◌≡◌, map, IfOk};
 ghost use Rattle.ft_names.specs.meaning.Cards.{under};
 ghost use Rattle.ft_build.specs.meaning.Conditions.{cond_of};
-ghost use Rattle.ft_build.specs.meaning.Tables.{head_of, place_in, row_conds, row_target, row_terms, variable_place, vector_terms};
+ghost use Rattle.ft_build.specs.meaning.Tables.{head_of, row_conds, row_target, row_terms, variable_place, vector_terms};
 ghost use Rattle.ft_build.specs.meaning.Terms.{term_of};
 
 use crate::conditions::build_cond;

@@ -4,7 +4,7 @@ ghost use Rattle.ft_build.specs.counting.Totals.{total};
 
 use ft_tree::{Item, VarWord};
 
-// How many variables of each kind stand before an item.
+/// How many variables of each kind stand before an item.
 #[derive(Clone, Copy, Drop)]
 pub struct Places {
     pub monitored: u32,
@@ -16,7 +16,7 @@ pub struct Places {
 }
 
 impl Places {
-    // Before the first item.
+    /// Before the first item.
     pub fn none() -> Places
         ensures places { result ≡ no_places }
         ensures total { total result ≡ 0 }
@@ -31,7 +31,7 @@ impl Places {
         }
     }
 
-    // How many of this kind.
+    /// How many of this kind.
     pub fn among(self, kind: VarWord) -> u32
         ensures { result ≡ place_among kind self }
     {
@@ -63,7 +63,7 @@ impl Places {
         places
     }
 
-    // How many stand before the next item.
+    /// How many stand before the next item.
     pub fn after(self, item: &Item) -> Places
         requires { total self + 1 < 2 ^ 32 }
         ensures places { result ≡ counted self item.now }

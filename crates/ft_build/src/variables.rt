@@ -1,10 +1,10 @@
-ghost use Rattle.std.specs.Prelude.{◌≡◌, ◌++◌, ◌∷◌, [], ◌<◌, ◌^◌, length, pos, IsTrue, IfOk, OnOk};
+ghost use Rattle.std.specs.Prelude.{◌≡◌, ◌++◌, ◌<◌, ◌^◌, length, IsTrue, IfOk, OnOk};
 ghost use Rattle.std.specs.List.{list_all};
-ghost use Rattle.ft_tree.specs.meaning.Limits.{is_init, is_item, is_kind};
+ghost use Rattle.ft_tree.specs.meaning.Limits.{is_init, is_item};
 ghost use Rattle.ft_names.specs.meaning.Cards.{kind_values, under};
 ghost use Rattle.ft_names.specs.meaning.Declared.{listing};
-ghost use Rattle.ft_build.specs.meaning.Variables.{build_var, init_value, named_position, no_places, place_among, position_of};
-ghost use Rattle.ft_build.specs.meaning.Variables.{truth_position, value_members, values_range, var_kind, vars_from};
+ghost use Rattle.ft_build.specs.meaning.Variables.{build_var, init_value, named_position, no_places, position_of, truth_position, var_kind};
+ghost use Rattle.ft_build.specs.meaning.Variables.{var_of, vars_from};
 
 use crate::places::Places;
 use crate::ranges::values_range;
@@ -13,7 +13,7 @@ use crate::texts::value_members;
 use ft_base::{List, NoMemory};
 use ft_core::{Var, VarKind};
 use ft_names::{Card, Cards, Names, Values, bound_value, kind_values};
-use ft_tree::{Bound, Item, Kind, Plain, VarWord, Word};
+use ft_tree::{Bound, Item, Plain, VarWord, Word};
 use std::alloc::Global;
 
 fn var_kind(word: VarWord) -> VarKind
@@ -71,9 +71,8 @@ fn init_value(names: &Names, cards: &Cards, items: &[Item], values: Values, init
     }
 }
 
-// Adds the variable that is declared so.
-fn add_declared(
-    vars: &mut List<Var>,
+// The variable that is declared so.
+fn declared_var(
     alloc: Global,
     items: &[Item],
     name: &Word,
@@ -81,17 +80,10 @@ fn add_declared(
     place: u32,
     values: Values,
     init: i64,
-) -> Result<(), NoMemory>
-    ensures { OnOk result (vars.new ≡ vars.old ++ record {
-      name = name.now.text;
-      kind = var_kind kind;
-      place = place;
-      range = values_range values;
-      members = value_members items.now values;
-      init = init;
-    } ∷ []) }
+) -> Result<Var, NoMemory>
+    ensures { IfOk result (λ var. var ≡ var_of items.now name.now.text kind place values init) }
 {
-    vars.push(Var {
+    Ok(Var {
         name: List::copy_of(alloc, name.text.as_slice())?,
         kind: var_kind(kind),
         place,
@@ -125,16 +117,9 @@ fn add_var(
         } => {
             let values = kind_values(names, items, of);
             let init = init_value(names, cards, items, values, init);
-            add_declared(
-                vars,
-                alloc,
-                items,
-                name,
-                *kind,
-                places.among(*kind),
-                values,
-                init,
-            )
+            let place = places.among(*kind);
+            let var = declared_var(alloc, items, name, *kind, place, values, init)?;
+            vars.push(var)
         }
         _ => Ok(()),
     }

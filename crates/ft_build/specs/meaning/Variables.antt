@@ -100,16 +100,21 @@ init_value items env Truths init = truth_position init.value
 init_value items env (Members k count) init = pos (named_position env init.value)
 init_value items env Untyped init = pos 0
 
+-- the variable of this name and kind, with these values
+abbrev pub var_of : List Item → (name : List ℕ) → VarWord → (place : ℕ) → Values → (init : ℤ) → Var
+var_of items name w place values init = record {
+  name = name;
+  kind = var_kind w;
+  place = place;
+  range = values_range values;
+  members = value_members items values;
+  init = init;
+}
+
 -- the variable that an item declares, where it does, after so many
 abbrev pub build_var : List Item → Env → Places → Item → List Var
-build_var items env places (Variable w name of init) = record {
-  name = name.text;
-  kind = var_kind w;
-  place = place_among w places;
-  range = values_range (kind_values items of);
-  members = value_members items (kind_values items of);
-  init = init_value items env (kind_values items of) init;
-} ∷ []
+build_var items env places (Variable w name of init) =
+    var_of items name.text w (place_among w places) (kind_values items of) (init_value items env (kind_values items of) init) ∷ []
 build_var items env places _ = []
 
 -- the variables that the last items declare, after so many
