@@ -1,0 +1,8 @@
+use Rattle.std.proofs.Common.{◌≡◌, take}
+use Rattle.std.specs.List.{flat_map}
+use Rattle.ft_names.specs.meaning.Cards.{under}
+use Rattle.ft_build.specs.meaning.Tables.{build_clause}
+use Rattle.ft_build.proofs.clauses.build_clauses.Given as goal
+
+abbrev pub invariant-loop-item : goal.invariant-loop-item
+invariant-loop-item l = l.clauses ≡ flat_map (build_clause l.moment (under l.cards)) (take l.item-index l.items)

@@ -1,0 +1,8 @@
+use Rattle.std.proofs.Common.{◌≡◌, take}
+use Rattle.std.specs.List.{flat_map}
+use Rattle.ft_names.specs.meaning.Cards.{under}
+use Rattle.ft_build.specs.meaning.Tables.{build_memory}
+use Rattle.ft_build.proofs.memories.build_memories.Given as goal
+
+abbrev pub invariant-loop-item : goal.invariant-loop-item
+invariant-loop-item l = l.memories ≡ flat_map (build_memory l.items (under l.cards)) (take l.item-index l.items)

@@ -1,0 +1,3 @@
+pub mod counting
+pub mod laws
+pub mod meaning
