@@ -4,13 +4,16 @@ pub mod MixerLemmas
 pub mod MixerProper
 pub mod MixerRows
 pub mod MixerSound
+pub mod NoClauses
 pub mod Passes
 pub mod ProperTests
 pub mod ReadingRules
 pub mod RelayLemmas
-pub mod RelayRows
 pub mod RelaySound
 pub mod SoundTests
 pub mod SpelledLemmas
+pub mod StreamLemmas
 pub mod TripLemmas
+pub mod TripProper
+pub mod TripSound
 pub mod WatchedSound

@@ -20,17 +20,17 @@ use Rattle.ft_worked.specs.Worked.{MixerIsProper}
 use Rattle.ft_worked.proofs.MadeLemmas.{Rest, set_of, for_each}
 use Rattle.ft_worked.proofs.ProperTests.{one_of, InRanges, OneFor, AllOneCell, proper_by_cells}
 
-abbrev Within : ℕ → ℤ → Type 0
+abbrev pub Within : ℕ → ℤ → Type 0
 Within top = IsWithin (pos 0, pos top)
 
-lt-not : (a b : ℤ) → int_lt a b ≡ not (int_le b a)
+pub lt-not : (a b : ℤ) → int_lt a b ≡ not (int_le b a)
 lt-not a b = grind (arith, ints)
 
 le-not : (a b : ℤ) → int_le b a ≡ not (int_lt a b)
 le-not a b = grind (arith, ints)
 
 -- of two opposites one is true, and so of two with a row's condition and its opposite
-two : (b c : Bool) → c ≡ not b → one_of ((b && true) ∷ (c && true) ∷ []) ≡ true
+pub two : (b c : Bool) → c ≡ not b → one_of ((b && true) ∷ (c && true) ∷ []) ≡ true
 two true c e = subst (λ z. one_of (true ∷ (z && true) ∷ []) ≡ true) (sym e) refl
 two false c e = subst (λ z. one_of (false ∷ (z && true) ∷ []) ≡ true) (sym e) refl
 
@@ -91,7 +91,7 @@ double a h e = let less = (and_parts (int_lt a (pos 5)) true e).0 in (omega (ari
 wider : (a : ℤ) → Within 2 a → Within 3 a
 wider a h = (h.0, omega (arith, ints, h.1))
 
-number : (n top : ℕ) → int_le (pos n) (pos top) ≡ true → Within top (pos n)
+pub number : (n top : ℕ) → int_le (pos n) (pos top) ≡ true → Within top (pos n)
 number n top e = (omega (arith, ints), omega (arith, ints, e))
 
 module _ (V : View) (local : InRanges vars V) where

@@ -10,9 +10,9 @@ use Rattle.ft_worked.specs.Worked.{TripRuns, TripIsWorked}
 use Rattle.ft_worked.proofs.MadeLemmas.{Rest, set_of, for_each}
 use Rattle.ft_mean.specs.laws.ScanTests.{fits}
 
-module _ (rest : Rest trip) where
+module _ (rest : Rest (trip 5)) where
   abbrev S : Tables
-  S = set_of trip rest
+  S = set_of (trip 5) rest
 
   opens : Fits S side.Req pressures opened
   unfolding memory_within
@@ -29,7 +29,7 @@ module _ (rest : Rest trip) where
   not_again f = true≢false (sym (simp evaluation at (f.follows 3 (omega arith) 4 _ (refl, refl))))
 
 pub worked : TripIsWorked
-worked S is = for_each trip S is TripRuns (λ rest. record {
+worked S is = for_each (trip 5) S is TripRuns (λ rest. record {
   opens = opens rest;
   not_early = not_early rest;
   counts = counts rest;

@@ -10,7 +10,14 @@
 --   above                1     1     0     0      from 500 until 400, else as before
 --   count                1     2     0     0      how many scans it has been above, up to 5
 --   coil                 0     0     0     0      1 where the count is 5
-use Rattle.std.specs.Prelude.{pos, false, List, [], ◌∷◌}
+--
+-- The count at which the coil is on is open: with 5 the design opens the valve at the scan of the requirement, and with 4 it is one scan
+-- early:
+--
+--   pressure             2000  2000  2000  2000  2000
+--   required             0     0     0     0     1
+--   with 4               0     0     0     1     1
+use Rattle.std.specs.Prelude.{ℕ, pos, Bool, false, List, [], ◌∷◌, if◌then◌else◌}
 use Rattle.ft_core.specs.declared.tables.Table.{Table}
 use Rattle.ft_core.specs.declared.tables.Var.{Var}
 use Rattle.ft_core.specs.declared.tables.VarKind.TheVariants.{Mon, Con, Input, Output, SofInner}
@@ -27,10 +34,10 @@ use Rattle.ft_mean.specs.meaning.Reading.{Scans}
 use Rattle.ft_worked.specs.Made.{Parts, variable, scans}
 
 -- pressure, valve, adc, coil, above, count
-abbrev pub vars : List Var
-vars =
+abbrev pub vars : (full : ℕ) → List Var
+vars full =
     variable 112 Mon 0 (pos 4000) (pos 0) ∷ variable 118 Con 0 (pos 1) (pos 0) ∷ variable 97 Input 0 (pos 1000) (pos 0)
-    ∷ variable 99 Output 0 (pos 1) (pos 0) ∷ variable 98 SofInner 0 (pos 1) (pos 0) ∷ variable 110 SofInner 1 (pos 5) (pos 0) ∷ []
+    ∷ variable 99 Output 0 (pos 1) (pos 0) ∷ variable 98 SofInner 0 (pos 1) (pos 0) ∷ variable 110 SofInner 1 (pos full) (pos 0) ∷ []
 
 -- high, trip
 abbrev pub memories : List Memory
@@ -57,18 +64,18 @@ above = record {
 abbrev pub is_above : Cond
 is_above = Compare Eq (Now 4) (Num (pos 1))
 
-abbrev pub count : Table
-count = record {
+abbrev pub count : (full : ℕ) → Table
+count full = record {
   section = section.Sof;
   grid = Normal 5 (Yes ∷ [])
-      (Not is_above ∷ And is_above (Compare Lt (Prev 5) (Num (pos 5))) ∷ And is_above (Compare Eq (Prev 5) (Num (pos 5))) ∷ [])
-      ((Num (pos 0) ∷ []) ∷ (Add (Prev 5) (Num (pos 1)) ∷ []) ∷ (Num (pos 5) ∷ []) ∷ []);
+      (Not is_above ∷ And is_above (Compare Lt (Prev 5) (Num (pos full))) ∷ And is_above (Compare Eq (Prev 5) (Num (pos full))) ∷ [])
+      ((Num (pos 0) ∷ []) ∷ (Add (Prev 5) (Num (pos 1)) ∷ []) ∷ (Num (pos full) ∷ []) ∷ []);
 }
 
-abbrev pub coil : Table
-coil = record {
+abbrev pub coil : (full : ℕ) → Table
+coil full = record {
   section = section.Sof;
-  grid = Normal 3 (Yes ∷ []) (Compare Eq (Now 5) (Num (pos 5)) ∷ Compare Lt (Now 5) (Num (pos 5)) ∷ [])
+  grid = Normal 3 (Yes ∷ []) (Compare Eq (Now 5) (Num (pos full)) ∷ Compare Lt (Now 5) (Num (pos full)) ∷ [])
       ((Num (pos 1) ∷ []) ∷ (Num (pos 0) ∷ []) ∷ []);
 }
 
@@ -81,12 +88,19 @@ valve_by_coil = record {
   grid = Normal 1 (Yes ∷ []) (is_on ∷ Not is_on ∷ []) ((Num (pos 1) ∷ []) ∷ (Num (pos 0) ∷ []) ∷ []);
 }
 
-abbrev pub trip : Parts
-trip = record {
+abbrev pub tables : (full : ℕ) → List Table
+tables full = adc ∷ valve ∷ above ∷ count full ∷ coil full ∷ valve_by_coil ∷ []
+
+-- the count at which the coil is on, where it is early and where it isn't
+abbrev pub full_of : (early : Bool) → ℕ
+full_of early = if early then 4 else 5
+
+abbrev pub trip : (full : ℕ) → Parts
+trip full = record {
   period = pos 50;
-  vars = vars;
+  vars = vars full;
   memories = memories;
-  tables = adc ∷ valve ∷ above ∷ count ∷ coil ∷ valve_by_coil ∷ [];
+  tables = tables full;
   first = [];
   always = [];
   step = [];

@@ -42,4 +42,4 @@ pub record TripRuns (S : Tables) : Type 0 where
   pub not_again : Fits S side.Sof readings counted_again → ⊥
 
 abbrev pub TripIsWorked : Type 0
-TripIsWorked = (S : Tables) → IsMadeOf trip S → TripRuns S
+TripIsWorked = (S : Tables) → IsMadeOf (trip 5) S → TripRuns S

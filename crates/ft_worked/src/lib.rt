@@ -11,11 +11,15 @@ mod relay;
 #[cfg(test)]
 mod replays;
 #[cfg(test)]
+mod streams;
+#[cfg(test)]
 mod tests;
 #[cfg(test)]
 mod timed;
 #[cfg(test)]
 mod traces;
+#[cfg(test)]
+mod trip;
 #[cfg(test)]
 mod watched;
 

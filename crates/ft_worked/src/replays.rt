@@ -16,7 +16,7 @@ use ft_replay::{Replayed, Replayer, replay};
 use std::alloc::Global;
 use std::test::Fail;
 
-fn scan_of(replayed: Replayed) -> Option<usize> {
+pub(crate) fn scan_of(replayed: Replayed) -> Option<usize> {
     match replayed {
         Replayed::Agree => None,
         Replayed::Differ { scan } => Some(scan),

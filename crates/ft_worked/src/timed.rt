@@ -2,6 +2,7 @@
 //! over one scan.
 use crate::relay::relay;
 use crate::replays::replayed;
+use crate::streams::{Stop, high_pressures, streamed_trip};
 use crate::traces::{read, zeros};
 use ft_base::NoMemory;
 use ft_core::Tables;
@@ -60,5 +61,34 @@ fn replays_again(rt: HostRuntime) -> Result<(), Fail> {
     let text = zeros(rt.alloc(), number(&rt, "SCANS"), "")?;
     let found = replay_again(rt.alloc(), text.as_slice(), number(&rt, "ROUNDS"))?;
     assert_eq!(rt; found, None);
+    Ok(())
+}
+
+// Makes what `streams_again` replays, to tell how much of the memory is that.
+#[test]
+fn makes_again(rt: HostRuntime) -> Result<(), Fail> {
+    let scans = number(&rt, "SCANS");
+    for _ in 0..number(&rt, "ROUNDS") {
+        let text = high_pressures(rt.alloc(), scans)?;
+        assert_eq!(rt; text.is_empty(), false);
+    }
+    Ok(())
+}
+
+/// Replays a trace of the trip's so often as it is read, and tells how many scans the last replay had, and its first difference.
+fn stream_again(alloc: Global, bytes: &[u8], rounds: u32) -> Result<(usize, Option<usize>), Stop> {
+    let mut found = Ok((0, None));
+    for _ in 0..rounds {
+        found = streamed_trip(alloc, false, bytes);
+    }
+    found
+}
+
+#[test]
+fn streams_again(rt: HostRuntime) -> Result<(), Fail> {
+    let scans = number(&rt, "SCANS");
+    let text = high_pressures(rt.alloc(), scans)?;
+    let found = stream_again(rt.alloc(), text.as_slice(), number(&rt, "ROUNDS"));
+    assert_eq!(rt; found, Ok((scans as usize, None)));
     Ok(())
 }
