@@ -58,7 +58,7 @@ fn build_parts(alloc: Global, names: &Names, cards: &Cards, tree: &Tree) -> Resu
     Ok(Parts {
         name: List::copy_of(alloc, tree.name.as_slice())?,
         period: tree.period.value as i64,
-        splits: or_default(1000, tree.splits),
+        splits: or_default(200_000, tree.splits),
         depth: or_default(4, tree.depth),
         vars: build_vars(alloc, names, cards, items)?,
         memories: build_memories(alloc, names, cards, items)?,

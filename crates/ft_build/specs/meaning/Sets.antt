@@ -19,7 +19,7 @@ abbrev pub set_in : Env → (name : List ℕ) → (period : Number) → (splits 
 set_in env name period splits depth items = record {
   name = name;
   period = pos period.value;
-  splits = or_default 1000 splits;
+  splits = or_default 200000 splits;
   depth = or_default 4 depth;
   vars = vars_from items env no_places items;
   memories = flat_map (build_memory items env) items;

@@ -1,0 +1,2 @@
+//! The checked set that a tree or a text spells, or the first of its faults.
+#![tactic(auto)]
