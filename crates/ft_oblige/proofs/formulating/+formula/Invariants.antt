@@ -1,6 +1,0 @@
-use Rattle.std.proofs.Common.{take}
-use Rattle.ft_oblige.specs.meaning.Formulas.{CollectsAll}
-use Rattle.ft_oblige.proofs.formulating.+formula.Given as goal
-
-abbrev pub invariant-formulas_of-loop-part : goal.invariant-formulas_of-loop-part
-invariant-formulas_of-loop-part l = CollectsAll l.base (take l.part-index l.parts) l.initial.pairs l.pairs l.list
