@@ -1,10 +1,9 @@
 -- What a declared name stands for is in the set: its variable with its kind and range, its memory with its side and hold.
 use Rattle.std.proofs.Common.{◌≡◌, ◌∙◌, sym, ap, subst, refl, inl, inr, ℕ, zero, suc, ◌+◌, ◌≤◌, ℤ, Bool, true, false, cond, List, [], ◌∷◌, ◌++◌}
-use Rattle.std.proofs.Common.{length, map, take, slice_get, find, option_map, bytes_eq, Option, Some, None, count_by, arith, true≢false, nat_le}
+use Rattle.std.proofs.Common.{length, map, take, slice_get, find, option_map, bytes_eq, Option, Some, None, count_by, arith, leb-true, nat_le}
 use Rattle.std.specs.List.{enumerate_from, flat_map, list_all}
 use Rattle.std.proofs.Math.Nat.{add-zero, zero-add, add-suc, suc-add}
 use Rattle.std.proofs.lemmas.Bool.{and_parts, cases_Bool}
-use Rattle.std.proofs.lemmas.Bool.Decides.{nat_tests}
 use Rattle.std.proofs.lemmas.List.Sums.{sum_by-cons}
 use Rattle.std.proofs.lemmas.Option.{none-some, same_Some}
 use Rattle.ft_tree.specs.declared.item.Bound.{Bound}
@@ -108,9 +107,13 @@ module _ (items : List Item) (env : Env) where
       (sym (same_Some x (item.Variable word name of init) is)) (_, refl, refl, refl)
   var-there places (x ∷ xs) (suc j) word name of init is =
       let rest = var-there (counted places x) xs j word name of init is in
-      let after = vars_from items env (counted places x) xs in
-      (rest.0, ap (slice_get (build_var items env places x ++ after)) (counts-on declares_variable x xs j)
-      ∙ past-var places x after (count_by declares_variable (take j xs)) ∙ rest.1, rest.2, rest.3)
+      let after = vars_from items env (counted places x) xs in (
+        rest.0,
+        ap (slice_get (build_var items env places x ++ after)) (counts-on declares_variable x xs j)
+            ∙ past-var places x after (count_by declares_variable (take j xs)) ∙ rest.1,
+        rest.2,
+        rest.3,
+      )
 
   memory-there : (x : Item) (side : SectionWord) (hold : Option ℤ) (xs : List Item) (j : ℕ) → slice_get xs j ≡ Some x
       → HasMemory (build_memory items env x) 0 side hold
@@ -125,9 +128,13 @@ module _ (items : List Item) (env : Env) where
       at-front (k ∷ ms) ns m e = e
   memory-there x side hold (y ∷ xs) (suc j) is here =
       let rest = memory-there x side hold xs j is here in
-      let after = flat_map (build_memory items env) xs in
-      (rest.0, ap (slice_get (build_memory items env y ++ after)) (counts-on declares_memory y xs j)
-      ∙ past-memory y after (count_by declares_memory (take j xs)) ∙ rest.1, rest.2, rest.3)
+      let after = flat_map (build_memory items env) xs in (
+        rest.0,
+        ap (slice_get (build_memory items env y ++ after)) (counts-on declares_memory y xs j)
+            ∙ past-memory y after (count_by declares_memory (take j xs)) ∙ rest.1,
+        rest.2,
+        rest.3,
+      )
 
 abbrev AllHold : {X : Type 0} → (X → Type 0) → List X → Type 0
 AllHold P [] = Unit {0}
@@ -172,11 +179,8 @@ module _ (items : List Item) (env : Env) where
   item-right k (item.RangeType name lo hi) is lawful = (tt, tt)
   item-right k (item.EnumType name members) is lawful =
       let count = (three-hold (is_word name) (is_count 64 (length members)) (list_all is_word members) lawful).1 in
-      let few = (and_parts (nat_le 1 (length members)) (nat_le (length members) 64) count).1 in
-      (tt, members-right k 0 members (at-most (length members) few))
-    where
-      at-most : (n : ℕ) → nat_le n 64 ≡ true → 0 + n ≤ 64
-      at-most n few = grind (arith, nat_tests)
+      let few = leb-true (length members) 64 (and_parts (nat_le 1 (length members)) (nat_le (length members) 64) count).1 in
+      (tt, members-right k 0 members (omega (arith, few)))
   item-right k (item.Variable word name of init) is lawful = (var-there items env no_places items k word name of init is, tt)
   item-right k (item.Held side name c hold) is lawful =
       (memory-there items env (item.Held side name c hold) side (Some (bound_value items hold)) items k is (_, refl, refl, refl), tt)

@@ -1,12 +1,11 @@
 -- Expressions none of whose parts is at fault, and induction over them.
-use Rattle.std.proofs.Common.{◌≡◌, ◌∙◌, sym, ap, refl, ℕ, Bool, true, false, ◌||◌, not, List, Option, Some, None}
-use Rattle.std.specs.Option.{option_or}
+use Rattle.std.proofs.Common.{◌≡◌, ◌∙◌, sym, ℕ, Bool, true, false, ◌||◌, not, List, Option, None}
 use Rattle.std.proofs.lemmas.Bool.{or_parts, not-false}
 use Rattle.ft_base.specs.declared.place.Place.{Place}
 use Rattle.ft_tree.specs.declared.expr.Op.{Op}
 use Rattle.ft_tree.specs.declared.expr.Expr.{Expr}
 use Rattle.ft_tree.specs.declared.expr.Expr.TheVariants.{Num, Name, Truth, Prev, Age, Not, Neg, Two}
-use Rattle.ft_tree.specs.laws.ExprParts.{ExprInductive, expr_induction}
+use Rattle.ft_tree.specs.laws.ExprParts.{expr_induction}
 use Rattle.ft_names.specs.declared.asked.Asked.{Asked}
 use Rattle.ft_names.specs.declared.asked.Asked.TheVariants.{Condition, Term}
 use Rattle.ft_names.specs.declared.asked.ExprKind.TheVariants.{Number}
@@ -135,9 +134,9 @@ module _ (env : Env) (site : Site) where
     denied = λ of place k asked c. h.denied of place (k Condition (clean-not asked of place c));
     negated = λ of place k asked c. let inner = clean-neg asked of place c in h.negated of place asked c inner (k (Term Number) inner);
     two = λ o left right place k l asked c.
-      let first = clean-left asked o left right place c in
-      let second = clean-right asked o left right place c in
-      h.two o left right place asked c first second (k (operands o) first) (l (operands o) second);
+        let first = clean-left asked o left right place c in
+        let second = clean-right asked o left right place c in
+        h.two o left right place asked c first second (k (operands o) first) (l (operands o) second);
   })
 
   mismatch-none : (asked : Asked) (e : Expr) → mismatch env asked e ≡ None → (is_wrong env e || not (is_met asked (kind_of env e))) ≡ false

@@ -1,10 +1,8 @@
 -- Terms that are within the size of a measure, with factors and divisors in their limits.
 use Rattle.std.proofs.Common.{◌≡◌, ◌∙◌, sym, ap, subst, refl, inl, inr, ℕ, ◌+◌, ◌-◌, ◌*◌, ◌≤◌, le_trans, max, ℤ, pos, neg_ℤ, Bool, true, false}
-use Rattle.std.proofs.Common.{◌&&◌, List, slice_get, Option, Some, None, if◌then◌else◌, option_map, unsigned_abs, int_le, nat_le, nat_lt}
-use Rattle.std.proofs.Common.{arith, true≢false, mul-le-mul_left, cond}
+use Rattle.std.proofs.Common.{◌&&◌, List, slice_get, Option, Some, None, if◌then◌else◌, option_map, unsigned_abs, int_le, nat_le}
+use Rattle.std.proofs.Common.{arith, le-leb, leb-true, ltb-false, true≢false, mul-le-mul_left}
 use Rattle.std.proofs.lemmas.Bool.{and_from, and_parts, cases_Bool}
-use Rattle.std.proofs.lemmas.Bool.Decides.{nat_tests}
-use Rattle.std.proofs.lemmas.Int.{ints}
 use Rattle.std.proofs.lemmas.Option.{none-some, same_Some}
 use Rattle.ft_tree.specs.declared.expr.Op.{Op}
 use Rattle.ft_tree.specs.declared.expr.Op.TheVariants as op
@@ -43,14 +41,17 @@ use Rattle.ft_build.specs.meaning.Terms.{age_term, folded, name_term, operator_t
 use Rattle.ft_build.specs.meaning.Variables.{is_range, ranged, values_range}
 use Rattle.ft_admit.proofs.terms.Lists.{if-kept, if-passed}
 use Rattle.ft_admit.proofs.terms.Cards.{AreThere, HasMemory, HasVar, hold_of}
-use Rattle.ft_admit.proofs.terms.Known.{IsKnown, at-most-true, some-cases}
+use Rattle.ft_admit.proofs.terms.Known.{IsKnown, some-cases}
 
 -- the greatest of 1 and the bounds of a range
 abbrev range_size : ℤ × ℤ → ℕ
 range_size r = max 1 (max (unsigned_abs r.0) (unsigned_abs r.1))
 
 both-bounds : (m n : ℕ) → nat_le m 1000000000 ≡ true → nat_le n 1000000000 ≡ true → max 1 (max m n) ≤ 1000000000
-both-bounds m n h k = grind (arith, nat_tests)
+both-bounds m n h k =
+    let first = leb-true m 1000000000 h in
+    let second = leb-true n 1000000000 k in
+    omega (arith, first, second)
 
 one-least : (n : ℕ) → 1 ≤ max 1 n
 one-least n = omega arith
@@ -85,7 +86,7 @@ values-small Untyped = ranged-small (pos 0) (pos 0)
 
 -- a size that isn't above the limit
 low-size : (n : ℕ) → is_above (Some n) ≡ false → n ≤ limit
-low-size n h = grind (arith, nat_tests)
+low-size n h = ltb-false limit n h
 
 uncapped : (n : ℕ) → is_above (Some (capped n)) ≡ false → n ≤ limit
 uncapped n h = let low = low-size (capped n) h in omega (arith, low)
@@ -107,7 +108,7 @@ module _ (vars : List Var) (memories : List Memory) where
   pub other-fits : (m : Measure) (z : ℤ) → unsigned_abs z ≤ limit → TermFits m false (term.Num z)
   other-fits m z low = record {
     factored = factored-Num z;
-    small = small-Num vars memories z ∙ at-most-true (unsigned_abs z) 1000000000000000 low;
+    small = small-Num vars memories z ∙ le-leb (unsigned_abs z) 1000000000000000 low;
     sized = λ e. absurd (true≢false (sym e));
   }
 
@@ -119,9 +120,12 @@ module _ (vars : List Var) (memories : List Memory) where
       let few = uncapped (unsigned_abs z) low in
       record {
         factored = factored-Num z;
-        small = small-Num vars memories z ∙ at-most-true (unsigned_abs z) 1000000000000000 few;
-        sized = λ e. (unsigned_abs z, ap Some (capped-same (unsigned_abs z) few),
-            subst (λ n. n ≤ unsigned_abs z) (sym (size-Num vars memories z)) (omega arith));
+        small = small-Num vars memories z ∙ le-leb (unsigned_abs z) 1000000000000000 few;
+        sized = λ e. (
+          unsigned_abs z,
+          ap Some (capped-same (unsigned_abs z) few),
+          subst (λ n. n ≤ unsigned_abs z) (sym (size-Num vars memories z)) (omega arith),
+        );
       }
 
   -- a constant term that is its value
@@ -132,7 +136,7 @@ module _ (vars : List Var) (memories : List Memory) where
       let (n, size, least, few) = bounded.sized z (sym is) in
       record {
         factored = factored-Num z;
-        small = small-Num vars memories z ∙ at-most-true (unsigned_abs z) 1000000000000000 (le_trans least few);
+        small = small-Num vars memories z ∙ le-leb (unsigned_abs z) 1000000000000000 (le_trans least few);
         sized = λ e. (n, size, subst (λ k. k ≤ n) (sym (size-Num vars memories z)) least);
       }
 
@@ -141,14 +145,16 @@ module _ (vars : List Var) (memories : List Memory) where
     size-there = ap var_size there.1 ∙ ap range_size there.3
 
     small-there : nat_le (var_size (slice_get vars place)) 1000000000000000 ≡ true
-    small-there = at-most-true (var_size (slice_get vars place)) 1000000000000000
+    small-there = le-leb (var_size (slice_get vars place)) 1000000000000000
         (subst (λ n. n ≤ 1000000000000000) (sym size-there) (widened (range_size (values_range values)) (values-small values)))
 
     sized-there : (vs : Values) → values ≡ vs → is_above (of_values vs).size ≡ false → is_kind (values_kind vs) Number ≡ true
         → (n : ℕ) × ((of_values vs).size ≡ Some n) × (var_size (slice_get vars place) ≤ n)
-    sized-there (Numbers lo hi) same low e =
-        (range_size (lo, hi), ap Some (capped-same (range_size (lo, hi)) (uncapped (range_size (lo, hi)) low)),
-        subst (λ n. n ≤ range_size (lo, hi)) (sym (size-there ∙ ap (λ (vs : Values). range_size (values_range vs)) same)) (ranged-least lo hi))
+    sized-there (Numbers lo hi) same low e = (
+      range_size (lo, hi),
+      ap Some (capped-same (range_size (lo, hi)) (uncapped (range_size (lo, hi)) low)),
+      subst (λ n. n ≤ range_size (lo, hi)) (sym (size-there ∙ ap (λ (vs : Values). range_size (values_range vs)) same)) (ranged-least lo hi),
+    )
     sized-there Truths same low e = absurd (true≢false (sym e))
     sized-there (Members k count) same low e = absurd (true≢false (sym e))
     sized-there Untyped same low e = absurd (true≢false (sym e))
@@ -158,7 +164,7 @@ module _ (vars : List Var) (memories : List Memory) where
       factored = factored-Now place;
       small = small-Now vars memories place ∙ small-there;
       sized = λ e. let (n, size, least) = sized-there values refl low e in
-        (n, size, subst (λ k. k ≤ n) (sym (size-Now vars memories place)) least);
+          (n, size, subst (λ k. k ≤ n) (sym (size-Now vars memories place)) least);
     }
 
     pub before-fits : is_above (of_values values).size ≡ false
@@ -167,7 +173,7 @@ module _ (vars : List Var) (memories : List Memory) where
       factored = factored-Prev place;
       small = small-Prev vars memories place ∙ small-there;
       sized = λ e. let (n, size, least) = sized-there values refl low e in
-        (n, size, subst (λ k. k ≤ n) (sym (size-Prev vars memories place)) least);
+          (n, size, subst (λ k. k ≤ n) (sym (size-Prev vars memories place)) least);
     }
 
   hold-size : (m : Memory) (hold : ℤ) → hold_of m ≡ Some hold → age_size (Some m) ≡ max 1 (unsigned_abs hold)
@@ -188,7 +194,7 @@ module _ (vars : List Var) (memories : List Memory) where
       record {
         factored = factored-Age place;
         small = small-Age vars memories place ∙ ap (λ n. nat_le n 1000000000000000) size
-            ∙ at-most-true (max 1 (unsigned_abs hold)) 1000000000000000 (le_trans least few);
+            ∙ le-leb (max 1 (unsigned_abs hold)) 1000000000000000 (le_trans least few);
         sized = λ e. (most, ap Some (capped-same most few), subst (λ n. n ≤ most) (sym (size-Age vars memories place ∙ size)) least);
       }
     where
@@ -220,7 +226,7 @@ module _ (vars : List Var) (memories : List Memory) where
       sum-small : ((is_sized_term vars memories s && is_sized_term vars memories t) && nat_le sum 1000000000000000) ≡ true
       sum-small = and_from (is_sized_term vars memories s && is_sized_term vars memories t) (nat_le sum 1000000000000000)
           (and_from (is_sized_term vars memories s) (is_sized_term vars memories t) fa.small fb.small)
-          (at-most-true sum 1000000000000000 (le_trans sum-sized.2 sum-sized.3))
+          (le-leb sum 1000000000000000 (le_trans sum-sized.2 sum-sized.3))
 
       sum-factored : (is_factored s && is_factored t) ≡ true
       sum-factored = and_from (is_factored s) (is_factored t) fa.factored fb.factored
@@ -246,7 +252,7 @@ module _ (vars : List Var) (memories : List Memory) where
       record {
         factored = factored-Neg t ∙ fits.factored;
         small = small-Neg vars memories t ∙ and_from (is_sized_term vars memories t) (nat_le (size_of vars memories t) 1000000000000000)
-            fits.small (at-most-true (size_of vars memories t) 1000000000000000 (le_trans least few));
+            fits.small (le-leb (size_of vars memories t) 1000000000000000 (le_trans least few));
         sized = λ e. (n, size, subst (λ k. k ≤ n) (sym (size-Neg vars memories t)) least);
       }
 
@@ -260,7 +266,7 @@ module _ (vars : List Var) (memories : List Memory) where
         factored = factored-Div t k ∙ in-limits (is_factored t) (int_le (pos 1) k) (int_le k (pos 1000000)) fits.factored bounds.0 bounds.1;
         small = small-Div vars memories t k ∙ and_from _ (nat_le (size_of vars memories t) 1000000000000000)
             (in-limits (is_sized_term vars memories t) (int_le (pos 1) k) (int_le k (pos 1000000)) fits.small bounds.0 bounds.1)
-            (at-most-true (size_of vars memories t) 1000000000000000 (le_trans least few));
+            (le-leb (size_of vars memories t) 1000000000000000 (le_trans least few));
         sized = λ e. (n, same ∙ size, subst (λ j. j ≤ n) (sym (size-Div vars memories t k)) least);
       }
     where
@@ -273,7 +279,7 @@ module _ (vars : List Var) (memories : List Memory) where
   times-fits c e m z t is low small value right fits =
       let (n, size, least) = fits.sized refl in
       let big : magnitude c ≡ Some (unsigned_abs z) =
-          (λ i. if small.large i then Some (limit + 1) else option_map unsigned_abs (value i)) in
+      (λ i. if small.large i then Some (limit + 1) else option_map unsigned_abs (value i)) in
       let whole : m.size ≡ Some (capped (unsigned_abs z * n)) = is ∙ (λ i. product_sizes (big i) (size i)) in
       let few = uncapped (unsigned_abs z * n) (sym (ap is_above whole) ∙ low) in
       let most : unsigned_abs z * size_of vars memories t ≤ unsigned_abs z * n = mul-le-mul_left (unsigned_abs z) least in
@@ -282,39 +288,42 @@ module _ (vars : List Var) (memories : List Memory) where
             (factor (unsigned_abs z) (sym (ap is_beyond big) ∙ if-kept (is_beyond (magnitude c)) Factor right)) fits.factored;
         small = small-Times vars memories z t ∙ and_from (is_sized_term vars memories t)
             (nat_le (unsigned_abs z * size_of vars memories t) 1000000000000000) fits.small
-            (at-most-true (unsigned_abs z * size_of vars memories t) 1000000000000000 (le_trans most few));
-        sized = λ e. (unsigned_abs z * n, whole ∙ ap Some (capped-same (unsigned_abs z * n) few),
-            subst (λ k. k ≤ unsigned_abs z * n) (sym (size-Times vars memories z t)) most);
+            (le-leb (unsigned_abs z * size_of vars memories t) 1000000000000000 (le_trans most few));
+        sized = λ e. (
+          unsigned_abs z * n,
+          whole ∙ ap Some (capped-same (unsigned_abs z * n) few),
+          subst (λ k. k ≤ unsigned_abs z * n) (sym (size-Times vars memories z t)) most,
+        );
       }
     where
       factor : (k : ℕ) → is_beyond (Some k) ≡ false → nat_le k 1000000 ≡ true
-      factor k h = grind (arith, nat_tests)
+      factor k h = le-leb k 1000000 (ltb-false 1000000 k h)
 
   module _ (a b : Measure) (u w : Option ℤ) (s t : Term) (sa : IsSmall a) (sb : IsSmall b) (ka : IsKnown a u) (kb : IsKnown b w)
-    (ba : IsBounded a) (fa : TermFits a true s) (fb : TermFits b true t) where
-      by-left : is_above (product_size a b) ≡ false → product_fault a b ≡ None → a.constant ≡ true
-          → TermFits (of_operator op.Mul a b) true (product_term u w s t)
-      by-left low right left =
-          let (z, value) = ka.constant left in
-          let fault : factor_fault a ≡ None =
-              sym (ap (λ x. if x then factor_fault a else (if b.constant then factor_fault b else Some Product)) left) ∙ right in
-          let size : product_size a b ≡ sides_size a b =
-              ap (λ x. if x then sides_size a b else (if b.constant then sides_size b a else None)) left in
-          subst (TermFits (of_operator op.Mul a b) true) (sym (ap (λ x. product_term x w s t) (ka.value ∙ value)))
-          (times-fits a b (of_operator op.Mul a b) z t size low sa value fault fb)
+      (ba : IsBounded a) (fa : TermFits a true s) (fb : TermFits b true t) where
+    by-left : is_above (product_size a b) ≡ false → product_fault a b ≡ None → a.constant ≡ true
+        → TermFits (of_operator op.Mul a b) true (product_term u w s t)
+    by-left low right left =
+        let (z, value) = ka.constant left in
+        let fault : factor_fault a ≡ None =
+        sym (ap (λ x. if x then factor_fault a else (if b.constant then factor_fault b else Some Product)) left) ∙ right in
+        let size : product_size a b ≡ sides_size a b =
+        ap (λ x. if x then sides_size a b else (if b.constant then sides_size b a else None)) left in
+        subst (TermFits (of_operator op.Mul a b) true) (sym (ap (λ x. product_term x w s t) (ka.value ∙ value)))
+        (times-fits a b (of_operator op.Mul a b) z t size low sa value fault fb)
 
-      by-right : is_above (product_size a b) ≡ false → product_fault a b ≡ None → a.constant ≡ false
-          → TermFits (of_operator op.Mul a b) true (product_term u w s t)
-      by-right low right other =
-          let rest : (if b.constant then factor_fault b else Some Product) ≡ None =
-              sym (ap (λ x. if x then factor_fault a else (if b.constant then factor_fault b else Some Product)) other) ∙ right in
-          elim (cases_Bool b.constant) [
-            | inl second ↦
+    by-right : is_above (product_size a b) ≡ false → product_fault a b ≡ None → a.constant ≡ false
+        → TermFits (of_operator op.Mul a b) true (product_term u w s t)
+    by-right low right other =
+        let rest : (if b.constant then factor_fault b else Some Product) ≡ None =
+        sym (ap (λ x. if x then factor_fault a else (if b.constant then factor_fault b else Some Product)) other) ∙ right in
+        elim (cases_Bool b.constant) [
+          | inl second ↦
               let (z, value) = kb.constant second in
               let fault : factor_fault b ≡ None = sym (ap (λ x. if x then factor_fault b else Some Product) second) ∙ rest in
               let size : product_size a b ≡ sides_size b a =
-                  ap (λ x. if x then sides_size a b else (if b.constant then sides_size b a else None)) other
-                  ∙ ap (λ x. if x then sides_size b a else None) second in
+              ap (λ x. if x then sides_size a b else (if b.constant then sides_size b a else None)) other
+              ∙ ap (λ x. if x then sides_size b a else None) second in
               let none : a.value ≡ None = elim (some-cases a.value) [
                 | inl e ↦ e
                 | inr e ↦ absurd (true≢false (sym (ba.constant e.0 e.1) ∙ other))
@@ -322,23 +331,23 @@ module _ (vars : List Var) (memories : List Memory) where
               subst (TermFits (of_operator op.Mul a b) true)
               (sym (λ i. product_term ((ka.value ∙ none) i) ((kb.value ∙ value) i) s t))
               (times-fits b a (of_operator op.Mul a b) z s size low sb value fault fa)
-            | inr neither ↦ absurd (true≢false (sym (chosen b.constant (factor_fault b) rest) ∙ neither))
-          ]
-        where
-          chosen : (x : Bool) (o : Option Why) → (if x then o else Some Product) ≡ None → x ≡ true
-          chosen true o e = refl
-          chosen false o e = cc e
+          | inr neither ↦ absurd (true≢false (sym (chosen b.constant (factor_fault b) rest) ∙ neither))
+        ]
+      where
+        chosen : (x : Bool) (o : Option Why) → (if x then o else Some Product) ≡ None → x ≡ true
+        chosen true o e = refl
+        chosen false o e = cc e
 
-      product-fits : is_above (product_size a b) ≡ false → product_fault a b ≡ None
-          → TermFits (of_operator op.Mul a b) true (product_term u w s t)
-      product-fits low right = elim (cases_Bool a.constant) [ inl left ↦ by-left low right left | inr other ↦ by-right low right other ]
+    product-fits : is_above (product_size a b) ≡ false → product_fault a b ≡ None
+        → TermFits (of_operator op.Mul a b) true (product_term u w s t)
+    product-fits low right = elim (cases_Bool a.constant) [ inl left ↦ by-left low right left | inr other ↦ by-right low right other ]
 
-      quotient-fits : is_divisor b.value ≡ true → TermFits (of_operator op.Div a b) true (quotient_term w s)
-      quotient-fits divides = elim (some-cases b.value) [
-        | inl none ↦ absurd (true≢false (sym (sym (ap is_divisor none) ∙ divides)))
-        | inr e ↦ subst (TermFits (of_operator op.Div a b) true) (sym (ap (λ x. quotient_term x s) (kb.value ∙ e.1)))
+    quotient-fits : is_divisor b.value ≡ true → TermFits (of_operator op.Div a b) true (quotient_term w s)
+    quotient-fits divides = elim (some-cases b.value) [
+      | inl none ↦ absurd (true≢false (sym (sym (ap is_divisor none) ∙ divides)))
+      | inr e ↦ subst (TermFits (of_operator op.Div a b) true) (sym (ap (λ x. quotient_term x s) (kb.value ∙ e.1)))
           (div-fits a (of_operator op.Div a b) e.0 s sa refl (sym (ap is_divisor e.1) ∙ divides) fa)
-      ]
+    ]
 
   at-number : (m : Measure) (number : Bool) (t : Term) → number ≡ true → TermFits m number t → TermFits m true t
   at-number m number t e h = subst (λ b. TermFits m b t) e h

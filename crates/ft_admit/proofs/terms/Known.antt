@@ -1,9 +1,8 @@
 -- The value that the building of a term finds is that of its measure, where not-so part of the term is at fault.
 use Rattle.std.proofs.Common.{◌≡◌, ◌∙◌, sym, ap, subst, refl, ◌⊎◌, inl, inr, ℕ, ◌≤◌, le_trans, ℤ, pos, neg_ℤ, ◌+ℤ◌, ◌-ℤ◌, ◌*ℤ◌, Bool, true, false}
-use Rattle.std.proofs.Common.{◌&&◌, ◌||◌, Option, Some, None, if◌then◌else◌, option_map, unsigned_abs, int_le, nat_le, arith, true≢false}
+use Rattle.std.proofs.Common.{◌&&◌, ◌||◌, Option, Some, None, if◌then◌else◌, option_map, unsigned_abs, int_le, le-leb, true≢false}
 use Rattle.std.specs.Int.{int_div_euclid}
 use Rattle.std.proofs.lemmas.Bool.{and_parts, cases_Bool}
-use Rattle.std.proofs.lemmas.Bool.Decides.{nat_tests}
 use Rattle.ft_base.specs.Division.{floor_of}
 use Rattle.ft_tree.specs.declared.expr.Op.{Op}
 use Rattle.ft_tree.specs.declared.expr.Op.TheVariants as op
@@ -12,9 +11,8 @@ use Rattle.ft_names.specs.declared.card.Card.TheVariants as card
 use Rattle.ft_names.specs.declared.card.Values.{Values}
 use Rattle.ft_names.specs.declared.card.Values.TheVariants.{Numbers, Truths, Members, Untyped}
 use Rattle.ft_measure.specs.declared.measure.Measure.{Measure}
-use Rattle.ft_measure.specs.declared.slope.Why.{Why}
 use Rattle.ft_measure.specs.declared.slope.Why.TheVariants.{Divisor}
-use Rattle.ft_measure.specs.meaning.Measures.{both_values, capped, joined, limit, of_age, of_bounds, of_constant, of_name, of_negation}
+use Rattle.ft_measure.specs.meaning.Measures.{both_values, capped, joined, of_age, of_bounds, of_constant, of_name, of_negation}
 use Rattle.ft_measure.specs.meaning.Measures.{of_operator, of_prev, of_values, quotient, unmeasured}
 use Rattle.ft_measure.specs.meaning.Slopes.{is_divisor, operator_fault}
 use Rattle.ft_measure.specs.laws.Bounded.{IsBounded, IsSmall}
@@ -29,9 +27,6 @@ pub record IsKnown (m : Measure) (v : Option ℤ) : Type 0 where
 abbrev IsKept : Option ℤ → Type 0
 IsKept v = (z : ℤ) → v ≡ Some z → kept z ≡ Some z
 
-pub at-most-true : (m n : ℕ) → m ≤ n → nat_le m n ≡ true
-at-most-true m n h = grind (arith, nat_tests)
-
 pub some-cases : {X : Type 0} (o : Option X) → (o ≡ None) ⊎ ((x : X) × (o ≡ Some x))
 some-cases None = inl refl
 some-cases (Some x) = inr (x, refl)
@@ -43,7 +38,7 @@ joined-value constant large v s h = ap (λ b. if b then None else v) h.large
 bounded-kept : (m : Measure) → IsBounded m → IsKept m.value
 bounded-kept m h z e =
     let least : unsigned_abs z ≤ 1000000000000000 = le_trans (h.sized z e).2 (h.sized z e).3 in
-    ap (λ b. if b then Some z else None) (at-most-true (unsigned_abs z) 1000000000000000 least)
+    ap (λ b. if b then Some z else None) (le-leb (unsigned_abs z) 1000000000000000 least)
 
 unmeasured-known : IsKnown unmeasured None
 unmeasured-known = record { value = refl; constant = λ e. absurd (true≢false (sym e)) }
@@ -128,10 +123,10 @@ both-known o f same a b u w s small bounded known other =
       value = (λ i. operator_value o (known.value i) (other.value i))
           ∙ both-kept o f same a.value b.value whole.value is (bounded-kept whole bounded);
       constant = λ e.
-        let both = and_parts a.constant b.constant e in
-        let x = known.constant both.0 in
-        let y = other.constant both.1 in
-        (f x.0 y.0, is ∙ (λ i. both_values f (x.1 i) (y.1 i)));
+          let both = and_parts a.constant b.constant e in
+          let x = known.constant both.0 in
+          let y = other.constant both.1 in
+          (f x.0 y.0, is ∙ (λ i. both_values f (x.1 i) (y.1 i)));
     }
 
 divided-kept : (u w v : Option ℤ) → v ≡ quotient u w → IsKept v → operator_value op.Div u w ≡ v
@@ -154,12 +149,14 @@ quotient-known a b u w divides small bounded known other =
       value = (λ i. operator_value op.Div (known.value i) (other.value i))
           ∙ divided-kept a.value b.value whole.value is (bounded-kept whole bounded);
       constant = λ e.
-        let both = and_parts a.constant b.constant e in
-        let x = known.constant both.0 in
-        let y = other.constant both.1 in
-        let divisor = and_parts (int_le (pos 1) y.0) (int_le y.0 (pos 1000000)) (sym (ap is_divisor y.1) ∙ divides) in
-        (int_div_euclid x.0 y.0, is ∙ (λ i. quotient (x.1 i) (y.1 i))
-        ∙ ap (λ t. if t then Some (int_div_euclid x.0 y.0) else None) divisor.0);
+          let both = and_parts a.constant b.constant e in
+          let x = known.constant both.0 in
+          let y = other.constant both.1 in
+          let divisor = and_parts (int_le (pos 1) y.0) (int_le y.0 (pos 1000000)) (sym (ap is_divisor y.1) ∙ divides) in (
+            int_div_euclid x.0 y.0,
+            is ∙ (λ i. quotient (x.1 i) (y.1 i))
+                ∙ ap (λ t. if t then Some (int_div_euclid x.0 y.0) else None) divisor.0,
+          );
     }
 
 no-value : (o : Op) → ((x y : ℤ) → both_value o x y ≡ None) → (u w : Option ℤ) → IsKnown unmeasured (operator_value o u w)

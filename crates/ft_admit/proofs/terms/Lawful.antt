@@ -1,5 +1,5 @@
 -- The terms and conditions of the set of a tree without a fault are lawful.
-use Rattle.std.proofs.Common.{◌≡◌, ◌∙◌, sym, ap, subst, refl, ℕ, Bool, true, false, ◌&&◌, List, [], ◌∷◌, ◌++◌, Option, Some, None, is_none, slice_get}
+use Rattle.std.proofs.Common.{◌≡◌, ◌∙◌, sym, refl, ℕ, Bool, true, ◌&&◌, List, ◌++◌, Option, Some, is_none, slice_get}
 use Rattle.std.specs.Prelude.{IsTrue}
 use Rattle.std.specs.List.{Contains, flat_map, list_all}
 use Rattle.std.proofs.lemmas.Bool.{and_parts}
@@ -22,12 +22,11 @@ use Rattle.ft_core.specs.declared.tables.Table.{Table}
 use Rattle.ft_core.specs.declared.tables.Var.{Var}
 use Rattle.ft_core.specs.declared.term.Cond.{Cond}
 use Rattle.ft_core.specs.declared.term.Term.{Term}
-use Rattle.ft_core.specs.meaning.Kinds.{monitored}
 use Rattle.ft_core.specs.meaning.Reads.{Read, cond_reads, grid_reads, memory_reads, term_reads}
 use Rattle.ft_core.specs.checked.Blocks.{may_show}
 use Rattle.ft_core.specs.checked.Short.{is_short, is_short_grid, is_short_memory, is_short_term}
 use Rattle.ft_core.specs.checked.Size.{is_sized, is_sized_grid, is_sized_memory, is_sized_term}
-use Rattle.ft_core.specs.checked.Sound.{AllRead, may_read, now_of, on_side, side_of, step_of}
+use Rattle.ft_core.specs.checked.Sound.{AllRead, may_read, on_side, side_of}
 use Rattle.ft_core.specs.laws.Lists.{all_pass}
 use Rattle.ft_core.specs.laws.Places.{contained}
 use Rattle.ft_names.specs.declared.site.Site.{Site}
@@ -76,13 +75,13 @@ module _ (may : Site → Read → Bool) where
   grid-reads : (s : Site) (g : Grid) → grid_passes reads_of_cond reads_of_term s g ≡ true → list_all (may s) (grid_reads g) ≡ true
   grid-reads s (Normal target columns rows terms) h =
       let (first, third, fourth) = three-hold (list_all (reads_of_cond s) columns) (list_all (reads_of_cond s) rows)
-          (list_all (list_all (reads_of_term s)) terms) h in
+      (list_all (list_all (reads_of_term s)) terms) h in
       joined-passes (may s) (flat_map cond_reads columns ++ flat_map cond_reads rows) (flat_map (flat_map term_reads) terms)
       (joined-passes (may s) (flat_map cond_reads columns) (flat_map cond_reads rows) (conds-read s columns first) (conds-read s rows third))
       (term-rows-read s terms fourth)
   grid-reads s (Inverted target terms rows grid) h =
       let (first, third, fourth) = three-hold (list_all (reads_of_term s) terms) (list_all (reads_of_cond s) rows)
-          (list_all (list_all (reads_of_cond s)) grid) h in
+      (list_all (list_all (reads_of_cond s)) grid) h in
       joined-passes (may s) (flat_map term_reads terms ++ flat_map cond_reads rows) (flat_map (flat_map cond_reads) grid)
       (joined-passes (may s) (flat_map term_reads terms) (flat_map cond_reads rows) (terms-read s terms first) (conds-read s rows third))
       (cond-rows-read s grid fourth)
@@ -154,106 +153,106 @@ three-lists : {X : Type 0} (p : X → Bool) (a b c : List X) → list_all p a �
 three-lists p a b c h k l = joined-passes p (a ++ b) c (joined-passes p a b h k) l
 
 module _ (bounds : ValuesBounded) (linear : LinearIsSmall) (name : List ℕ) (period : Number) (splits depth : Option Number) (items : List Item)
-  (faultless : IsFaultless name period splits depth items) where
-    abbrev env : Env
-    env = env_of items
+    (faultless : IsFaultless name period splits depth items) where
+  abbrev env : Env
+  env = env_of items
 
-    abbrev set : Parts
-    set = set_of name period splits depth items
+  abbrev set : Parts
+  set = set_of name period splits depth items
 
-    clean-spots : list_all (is_clean env) (spots items) ≡ true
-    clean-spots =
-        all-both (λ s. is_none (side_spot env s)) (λ s. is_none (mismatch_spot env s) && is_none (slope_spot env s)) (spots items)
-        (none-passes (side_spot env) (spots items) faultless.sides)
-        (all-both (λ s. is_none (mismatch_spot env s)) (λ s. is_none (slope_spot env s)) (spots items)
-        (none-passes (mismatch_spot env) (spots items) faultless.kinds) (none-passes (slope_spot env) (spots items) faultless.slopes))
+  clean-spots : list_all (is_clean env) (spots items) ≡ true
+  clean-spots =
+      all-both (λ s. is_none (side_spot env s)) (λ s. is_none (mismatch_spot env s) && is_none (slope_spot env s)) (spots items)
+      (none-passes (side_spot env) (spots items) faultless.sides)
+      (all-both (λ s. is_none (mismatch_spot env s)) (λ s. is_none (slope_spot env s)) (spots items)
+      (none-passes (mismatch_spot env) (spots items) faultless.kinds) (none-passes (slope_spot env) (spots items) faultless.slopes))
 
-    fine : list_all (is_fine_item env) items ≡ true
-    fine = all-both (λ x. list_all (is_clean env) (item_spots x)) is_item items
-        (sym (all-flat_map (is_clean env) item_spots items) ∙ clean-spots) faultless.lawful.parts
+  fine : list_all (is_fine_item env) items ≡ true
+  fine = all-both (λ x. list_all (is_clean env) (item_spots x)) is_item items
+      (sym (all-flat_map (is_clean env) item_spots items) ∙ clean-spots) faultless.lawful.parts
 
-    there : AreThere env set.vars set.memories
-    there = are-there items faultless.lawful.parts
+  there : AreThere env set.vars set.memories
+  there = are-there items faultless.lawful.parts
 
-    abbrev may : Site → Read → Bool
-    may = may_at set.vars set.memories
+  abbrev may : Site → Read → Bool
+  may = may_at set.vars set.memories
 
-    reads : Passes (reads_of_cond may) (reads_of_term may) env
-    reads = record {
-      conds = λ s e h. (read-allowed env set.vars set.memories there s e h.asked h.clean).1;
-      terms = λ s e h. (read-allowed env set.vars set.memories there s e h.asked h.clean).0;
-    }
+  reads : Passes (reads_of_cond may) (reads_of_term may) env
+  reads = record {
+    conds = λ s e h. (read-allowed env set.vars set.memories there s e h.asked h.clean).1;
+    terms = λ s e h. (read-allowed env set.vars set.memories there s e h.asked h.clean).0;
+  }
 
-    sizes : Passes (sized_cond set.vars set.memories) (sized_term set.vars set.memories) env
-    sizes = record {
-      conds = λ s e h. (sized-allowed bounds linear env set.vars set.memories there s e h.asked h.clean).sized;
-      terms = λ s e h. (sized-allowed bounds linear env set.vars set.memories there s e h.asked h.clean).fits.small;
-    }
+  sizes : Passes (sized_cond set.vars set.memories) (sized_term set.vars set.memories) env
+  sizes = record {
+    conds = λ s e h. (sized-allowed bounds linear env set.vars set.memories there s e h.asked h.clean).sized;
+    terms = λ s e h. (sized-allowed bounds linear env set.vars set.memories there s e h.asked h.clean).fits.small;
+  }
 
-    lengths : Passes short_cond short_term env
-    lengths = record {
-      conds = λ s e h. (sized-allowed bounds linear env set.vars set.memories there s e h.asked h.clean).short h.few;
-      terms = λ s e h. term-short bounds linear env set.vars set.memories there s e h.few
-          (sized-allowed bounds linear env set.vars set.memories there s e h.asked h.clean).fits.factored;
-    }
+  lengths : Passes short_cond short_term env
+  lengths = record {
+    conds = λ s e h. (sized-allowed bounds linear env set.vars set.memories there s e h.asked h.clean).short h.few;
+    terms = λ s e h. term-short bounds linear env set.vars set.memories there s e h.few
+        (sized-allowed bounds linear env set.vars set.memories there s e h.asked h.clean).fits.factored;
+  }
 
-    table-reads : (k : ℕ) (table : Table) (r : Read) → slice_get set.tables k ≡ Some table → Contains (grid_reads table.grid) r
-        → IsTrue (may_read set.vars set.memories table.section r)
-    table-reads k table r at in-grid =
-        let passes = all_pass (table_passes (reads_of_cond may) (reads_of_term may)) set.tables
-            (tables-pass (reads_of_cond may) (reads_of_term may) env reads items fine) table (contained set.tables k table at) in
-        let s : Site = section_place table.section in
-        sym (same-may set.vars set.memories table.section r)
-        ∙ all_pass (may s) (grid_reads table.grid) (grid-reads may s table.grid passes) r in-grid
+  table-reads : (k : ℕ) (table : Table) (r : Read) → slice_get set.tables k ≡ Some table → Contains (grid_reads table.grid) r
+      → IsTrue (may_read set.vars set.memories table.section r)
+  table-reads k table r at in-grid =
+      let passes = all_pass (table_passes (reads_of_cond may) (reads_of_term may)) set.tables
+      (tables-pass (reads_of_cond may) (reads_of_term may) env reads items fine) table (contained set.tables k table at) in
+      let s : Site = section_place table.section in
+      sym (same-may set.vars set.memories table.section r)
+      ∙ all_pass (may s) (grid_reads table.grid) (grid-reads may s table.grid passes) r in-grid
 
-    memory-reads-side : (m : ℕ) (memory : Memory) (r : Read) → slice_get set.memories m ≡ Some memory
-        → Contains (memory_reads (Some memory)) r → IsTrue (on_side set.vars set.memories (side_of memory) r)
-    memory-reads-side m memory r at in-memory =
-        let passes = all_pass (memory_passes (reads_of_cond may) (reads_of_term may)) set.memories
-            (memories-pass (reads_of_cond may) (reads_of_term may) env reads items fine) memory (contained set.memories m memory at) in
-        let s : Site = side_place (side_of memory) in
-        sym (same-on-side set.vars set.memories (side_of memory) r)
-        ∙ all_pass (may s) (memory_reads (Some memory)) (memory-reads may s memory passes) r in-memory
+  memory-reads-side : (m : ℕ) (memory : Memory) (r : Read) → slice_get set.memories m ≡ Some memory
+      → Contains (memory_reads (Some memory)) r → IsTrue (on_side set.vars set.memories (side_of memory) r)
+  memory-reads-side m memory r at in-memory =
+      let passes = all_pass (memory_passes (reads_of_cond may) (reads_of_term may)) set.memories
+      (memories-pass (reads_of_cond may) (reads_of_term may) env reads items fine) memory (contained set.memories m memory at) in
+      let s : Site = side_place (side_of memory) in
+      sym (same-on-side set.vars set.memories (side_of memory) r)
+      ∙ all_pass (may s) (memory_reads (Some memory)) (memory-reads may s memory passes) r in-memory
 
-    lawful : HaveLawfulTerms set
-    lawful = record {
-      tables_read = table-reads;
-      memories_read = memory-reads-side;
-      first_reads = each-reads (may site.First) set.first (clauses-pass (reads_of_cond may) (reads_of_term may) env reads items fine First);
-      always_reads = each-reads (may site.Always) set.always (clauses-pass (reads_of_cond may) (reads_of_term may) env reads items fine Always);
-      step_reads = each-reads (may site.Step) set.step (clauses-pass (reads_of_cond may) (reads_of_term may) env reads items fine Step);
-      invariants_read = λ b f block name c r at in-block in-cond.
+  lawful : HaveLawfulTerms set
+  lawful = record {
+    tables_read = table-reads;
+    memories_read = memory-reads-side;
+    first_reads = each-reads (may site.First) set.first (clauses-pass (reads_of_cond may) (reads_of_term may) env reads items fine First);
+    always_reads = each-reads (may site.Always) set.always (clauses-pass (reads_of_cond may) (reads_of_term may) env reads items fine Always);
+    step_reads = each-reads (may site.Step) set.step (clauses-pass (reads_of_cond may) (reads_of_term may) env reads items fine Step);
+    invariants_read = λ b f block name c r at in-block in-cond.
         all_pass (may_show set.vars set.memories) (cond_reads c)
         (each-invariant (reads_of_cond may) (reads_of_term may) set.blocks
         (blocks-pass (reads_of_cond may) (reads_of_term may) env reads items fine) b f block name c at in-block) r in-cond;
-      sized_memories = all-follow (memory_passes (sized_cond set.vars set.memories) (sized_term set.vars set.memories))
-          (is_sized_memory set.vars set.memories) set.memories
-          (λ m h. memory-sized set.vars set.memories (side_place (side_of m)) m h)
-          (memories-pass (sized_cond set.vars set.memories) (sized_term set.vars set.memories) env sizes items fine);
-      sized_tables = all-follow (table_passes (sized_cond set.vars set.memories) (sized_term set.vars set.memories))
-          (λ table. is_sized_grid set.vars set.memories table.grid) set.tables
-          (λ t h. grid-sized set.vars set.memories (section_place t.section) t.grid h)
-          (tables-pass (sized_cond set.vars set.memories) (sized_term set.vars set.memories) env sizes items fine);
-      sized_clauses = three-lists (is_sized set.vars set.memories) set.first set.always set.step
-          (clauses-pass (sized_cond set.vars set.memories) (sized_term set.vars set.memories) env sizes items fine First)
-          (clauses-pass (sized_cond set.vars set.memories) (sized_term set.vars set.memories) env sizes items fine Always)
-          (clauses-pass (sized_cond set.vars set.memories) (sized_term set.vars set.memories) env sizes items fine Step);
-      invariants_sized = λ b f block name c at in-block.
+    sized_memories = all-follow (memory_passes (sized_cond set.vars set.memories) (sized_term set.vars set.memories))
+        (is_sized_memory set.vars set.memories) set.memories
+        (λ m h. memory-sized set.vars set.memories (side_place (side_of m)) m h)
+        (memories-pass (sized_cond set.vars set.memories) (sized_term set.vars set.memories) env sizes items fine);
+    sized_tables = all-follow (table_passes (sized_cond set.vars set.memories) (sized_term set.vars set.memories))
+        (λ table. is_sized_grid set.vars set.memories table.grid) set.tables
+        (λ t h. grid-sized set.vars set.memories (section_place t.section) t.grid h)
+        (tables-pass (sized_cond set.vars set.memories) (sized_term set.vars set.memories) env sizes items fine);
+    sized_clauses = three-lists (is_sized set.vars set.memories) set.first set.always set.step
+        (clauses-pass (sized_cond set.vars set.memories) (sized_term set.vars set.memories) env sizes items fine First)
+        (clauses-pass (sized_cond set.vars set.memories) (sized_term set.vars set.memories) env sizes items fine Always)
+        (clauses-pass (sized_cond set.vars set.memories) (sized_term set.vars set.memories) env sizes items fine Step);
+    invariants_sized = λ b f block name c at in-block.
         each-invariant (sized_cond set.vars set.memories) (sized_term set.vars set.memories) set.blocks
         (blocks-pass (sized_cond set.vars set.memories) (sized_term set.vars set.memories) env sizes items fine) b f block name c at in-block;
-      short = record {
-        of_memories = all-follow (memory_passes short_cond short_term) is_short_memory set.memories
-            (λ m h. memory-short (side_place (side_of m)) m h) (memories-pass short_cond short_term env lengths items fine);
-        of_tables = all-follow (table_passes short_cond short_term) (λ table. is_short_grid table.grid) set.tables
-            (λ t h. grid-short (section_place t.section) t.grid h) (tables-pass short_cond short_term env lengths items fine);
-        of_clauses = three-lists is_short set.first set.always set.step
-            (clauses-pass short_cond short_term env lengths items fine First)
-            (clauses-pass short_cond short_term env lengths items fine Always)
-            (clauses-pass short_cond short_term env lengths items fine Step);
-      };
-      invariants_short = λ b f block name c at in-block.
+    short = record {
+      of_memories = all-follow (memory_passes short_cond short_term) is_short_memory set.memories
+          (λ m h. memory-short (side_place (side_of m)) m h) (memories-pass short_cond short_term env lengths items fine);
+      of_tables = all-follow (table_passes short_cond short_term) (λ table. is_short_grid table.grid) set.tables
+          (λ t h. grid-short (section_place t.section) t.grid h) (tables-pass short_cond short_term env lengths items fine);
+      of_clauses = three-lists is_short set.first set.always set.step
+          (clauses-pass short_cond short_term env lengths items fine First)
+          (clauses-pass short_cond short_term env lengths items fine Always)
+          (clauses-pass short_cond short_term env lengths items fine Step);
+    };
+    invariants_short = λ b f block name c at in-block.
         each-invariant short_cond short_term set.blocks (blocks-pass short_cond short_term env lengths items fine) b f block name c at in-block;
-    }
+  }
 
 -- whatever the tree is
 pub terms-lawful : ValuesBounded → LinearIsSmall → TermsAreLawful

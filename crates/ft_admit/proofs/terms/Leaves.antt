@@ -1,12 +1,12 @@
 -- The term of an expression has at most as many leaves as the expression has tokens.
-use Rattle.std.proofs.Common.{◌≡◌, ◌∙◌, sym, ap, subst, inl, inr, ℕ, suc, ◌+◌, ◌≤◌, le_trans, ℤ, pos, Bool, true, false, List, [], ◌∷◌, ◌++◌, length}
-use Rattle.std.proofs.Common.{Option, Some, None, arith, length-append, codes, if◌then◌else◌, decimal}
+use Rattle.std.proofs.Common.{◌≡◌, ◌∙◌, sym, ap, subst, inl, inr, ℕ, ◌+◌, ◌≤◌, le_trans, ℤ, pos, List, [], ◌∷◌, ◌++◌, length}
+use Rattle.std.proofs.Common.{Option, Some, None, arith, length-append, codes, if◌then◌else◌}
 use Rattle.std.proofs.lemmas.Bool.{cases_Bool}
 use Rattle.ft_base.specs.declared.place.Place.{Place}
 use Rattle.ft_tree.specs.declared.expr.Op.{Op}
 use Rattle.ft_tree.specs.declared.expr.Op.TheVariants as op
 use Rattle.ft_tree.specs.declared.expr.Expr.{Expr}
-use Rattle.ft_tree.specs.declared.expr.Expr.TheVariants.{Num, Name, Truth, Prev, Age, Not, Neg, Two}
+use Rattle.ft_tree.specs.declared.expr.Expr.TheVariants.{Not, Neg, Two}
 use Rattle.ft_tree.specs.declared.level.Level.{Level}
 use Rattle.ft_tree.specs.declared.level.Level.TheVariants.{Negation, Unary}
 use Rattle.ft_tree.specs.meaning.Expression.{Spelled, expr_pieces, operand, spelled}
@@ -59,7 +59,7 @@ longer-two o left right place =
     let first = operand-long (left_level o) (spelled left) in
     let second = operand-long (right_level o) (spelled right) in
     let whole = ap long (spelled-Two o left right place)
-        ∙ length-append (operand (left_level o) (spelled left)) (token (op_sign o) ∷ operand (right_level o) (spelled right)) in
+    ∙ length-append (operand (left_level o) (spelled left)) (token (op_sign o) ∷ operand (right_level o) (spelled right)) in
     subst (λ n. length (expr_pieces left) + length (expr_pieces right) + 1 ≤ n) (sym whole) (omega (arith, first, second))
 
 one-leaf : (z : ℤ) (n : ℕ) → 1 ≤ n → leaves (term.Num z) ≤ n

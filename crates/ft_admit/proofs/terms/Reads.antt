@@ -1,15 +1,14 @@
 -- What terms and conditions read may be read where their expressions stand, if no part stands on the wrong side.
-use Rattle.std.proofs.Common.{◌≡◌, ◌∙◌, sym, ap, subst, refl, ℕ, ◌<◌, ℤ, pos, Bool, true, false, ◌||◌, ◌&&◌, not, List, [], ◌∷◌, ◌++◌, length}
-use Rattle.std.proofs.Common.{slice_get, Option, Some, None, codes, nat_lt, arith, true≢false}
+use Rattle.std.proofs.Common.{◌≡◌, ◌∙◌, sym, ap, refl, ℕ, ℤ, pos, Bool, true, false, ◌||◌, ◌&&◌, not, List, [], ◌∷◌, ◌++◌, length}
+use Rattle.std.proofs.Common.{Option, Some, None, codes, lt-ltb, true≢false}
 use Rattle.std.specs.List.{list_all}
 use Rattle.std.proofs.lemmas.Bool.{not-false}
-use Rattle.std.proofs.lemmas.Bool.Decides.{nat_tests}
 use Rattle.std.proofs.lemmas.Option.{slice_get_within}
 use Rattle.ft_base.specs.declared.place.Place.{Place}
 use Rattle.ft_tree.specs.declared.expr.Op.{Op}
 use Rattle.ft_tree.specs.declared.expr.Op.TheVariants as op
 use Rattle.ft_tree.specs.declared.expr.Expr.{Expr}
-use Rattle.ft_tree.specs.declared.expr.Expr.TheVariants.{Num, Name, Truth, Prev, Age, Not, Neg, Two}
+use Rattle.ft_tree.specs.declared.expr.Expr.TheVariants.{Name, Prev, Age, Two}
 use Rattle.ft_tree.specs.declared.item.SectionWord.{SectionWord}
 use Rattle.ft_tree.specs.declared.item.SectionWord.TheVariants as section_word
 use Rattle.ft_tree.specs.declared.item.VarWord.{VarWord}
@@ -41,7 +40,6 @@ use Rattle.ft_names.specs.declared.site.Site.{Site}
 use Rattle.ft_names.specs.declared.site.Site.TheVariants as site
 use Rattle.ft_names.specs.meaning.Cards.{Env}
 use Rattle.ft_names.specs.laws.Parts.{out-Name, out-Prev, out-Age}
-use Rattle.ft_types.specs.declared.fault.TypeFault.{TypeFault}
 use Rattle.ft_types.specs.declared.fault.TypeFault.TheVariants.{WrongSide}
 use Rattle.ft_types.specs.meaning.Mismatch.{is_timer, is_wrong, layer_wrong}
 use Rattle.ft_types.specs.meaning.Sides.{has_age, has_prev, is_designed, is_monitored, is_output, is_required, layer_wrong_side, may_read}
@@ -54,7 +52,7 @@ use Rattle.ft_build.specs.meaning.Variables.{var_kind}
 use Rattle.ft_build.specs.laws.Terms.{term-Num, term-Name, term-Truth, term-Prev, term-Age, term-Not, term-Neg, term-Two}
 use Rattle.ft_build.specs.laws.Terms.{cond-Num, cond-Name, cond-Truth, cond-Prev, cond-Age, cond-Not, cond-Neg, cond-Two}
 use Rattle.ft_admit.proofs.terms.Lists.{if-passed, joined-passes}
-use Rattle.ft_admit.proofs.terms.Clean.{CleanInductive, IsClean, clean_induction, is-on-side, is-right}
+use Rattle.ft_admit.proofs.terms.Clean.{IsClean, clean_induction, is-on-side, is-right}
 use Rattle.ft_admit.proofs.terms.Compose.{Composes, conds-pass, truth-passes}
 use Rattle.ft_admit.proofs.terms.Cards.{AreThere, HasMemory, HasVar, hold_of}
 
@@ -95,9 +93,6 @@ designed-kind word.Output e = refl
 designed-kind word.SofVar e = refl
 designed-kind w e = absurd (true≢false (sym e))
 
-below : (m n : ℕ) → m < n → nat_lt m n ≡ true
-below m n less = grind (arith, nat_tests)
-
 module _ (vars : List Var) (memories : List Memory) where
   of-test : (test : VarKind → Bool) (place : ℕ) (w : VarWord) (values : Values) → HasVar vars place w values
       → is_of vars (λ x v. test v.kind) place ≡ test (var_kind w)
@@ -112,7 +107,7 @@ module _ (vars : List Var) (memories : List Memory) where
   now-allowed site.Req place w values h r = of-test on_requirement place w values h ∙ required-kind w r
   now-allowed site.Sof place w values h r = of-test on_design place w values h ∙ designed-kind w r
   now-allowed site.Out place w values h r = of-test (same_kind kind.Output) place w values h ∙ out-kind w r
-  now-allowed site.Shows place w values h r = below place (length vars) (slice_get_within vars place h.0 h.1)
+  now-allowed site.Shows place w values h r = lt-ltb place (length vars) (slice_get_within vars place h.0 h.1)
 
   before-allowed : (s : Site) (place : ℕ) (w : VarWord) (values : Values) → HasVar vars place w values → has_prev s ≡ true
       → reads s w ≡ true → may_at vars memories s (at_before place) ≡ true
@@ -154,7 +149,7 @@ module _ (vars : List Var) (memories : List Memory) where
       → may_at vars memories s (of_memory place) ≡ true
   memory-allowed site.Req place w hold h r = of-side side.Req place w hold h ∙ req-side w r
   memory-allowed site.Sof place w hold h r = of-side side.Sof place w hold h ∙ sof-side w r
-  memory-allowed site.Shows place w hold h r = below place (length memories) (slice_get_within memories place h.0 h.1)
+  memory-allowed site.Shows place w hold h r = lt-ltb place (length memories) (slice_get_within memories place h.0 h.1)
   memory-allowed site.First place w hold h r = absurd (true≢false (sym r))
   memory-allowed site.Always place w hold h r = absurd (true≢false (sym r))
   memory-allowed site.Step place w hold h r = absurd (true≢false (sym r))
@@ -313,52 +308,60 @@ module _ (env : Env) (vars : List Var) (memories : List Memory) (there : AreTher
   on-name : (name : List ℕ) (place : Place) (asked : Asked) → IsClean env s asked (Name name place) → Pass (Name name place)
   on-name name place asked c =
       let m = if-passed (may_read s (env name)) (WrongSide name place)
-          (sym (at-name env s name place) ∙ is-on-side env s asked (Name name place) c) in
-      (term-passes _ _ (term-Name env name place) (name-passes name (env name) refl m),
-      cond-passes _ _ (cond-Name env name place) (name-cond-passes name (env name) refl m))
+      (sym (at-name env s name place) ∙ is-on-side env s asked (Name name place) c) in (
+        term-passes _ _ (term-Name env name place) (name-passes name (env name) refl m),
+        cond-passes _ _ (cond-Name env name place) (name-cond-passes name (env name) refl m),
+      )
 
   on-prev : (name : List ℕ) (place : Place) (asked : Asked) → IsClean env s asked (Prev name place) → Pass (Prev name place)
   on-prev name place asked c =
       let h = history-passes env s (has_prev s) (codes "prev") name place
-          (sym (at-prev env s name place) ∙ is-on-side env s asked (Prev name place) c) in
-      let passes = prev-passes name (env name) refl h.0 h.1 in
-      (term-passes _ _ (term-Prev env name place) passes,
-      cond-passes _ _ (cond-Prev env name place) (one-passes may (prev_term (env name)) passes))
+      (sym (at-prev env s name place) ∙ is-on-side env s asked (Prev name place) c) in
+      let passes = prev-passes name (env name) refl h.0 h.1 in (
+        term-passes _ _ (term-Prev env name place) passes,
+        cond-passes _ _ (cond-Prev env name place) (one-passes may (prev_term (env name)) passes),
+      )
 
   on-age : (name : List ℕ) (place : Place) (asked : Asked) → IsClean env s asked (Age name place) → Pass (Age name place)
   on-age name place asked c =
       let h = history-passes env s (has_age s) (codes "age") name place
-          (sym (at-age env s name place) ∙ is-on-side env s asked (Age name place) c) in
-      let timer = not-false (is_timer (env name)) (sym (timer-wrong env s name place) ∙ is-right env s asked (Age name place) c) in
-      (term-passes _ _ (term-Age env name place) (age-passes name (env name) refl h.0 timer),
-      cond-passes _ _ (cond-Age env name place) (nothing may))
+      (sym (at-age env s name place) ∙ is-on-side env s asked (Age name place) c) in
+      let timer = not-false (is_timer (env name)) (sym (timer-wrong env s name place) ∙ is-right env s asked (Age name place) c) in (
+        term-passes _ _ (term-Age env name place) (age-passes name (env name) refl h.0 timer),
+        cond-passes _ _ (cond-Age env name place) (nothing may),
+      )
 
   on-two : (o : Op) (left right : Expr) (place : Place) → Pass left → Pass right → Pass (Two o left right place)
-  on-two o left right place h k =
-      (term-passes _ _ (term-Two env o left right place)
-      (fold-passes may (operator_value o (value_of env left) (value_of env right)) _
-      (two-pass may o (value_of env left) (value_of env right) (term_of env left) (term_of env right) h.0 k.0)),
-      cond-passes _ _ (cond-Two env o left right place)
-      (conds-pass (λ c. list_all may (cond_reads c)) (λ t. list_all may (term_reads t)) (composes may) o (cond_of env left) (cond_of env right) (term_of env left) (term_of env right) h.1 k.1 h.0 k.0))
+  on-two o left right place h k = (
+    term-passes _ _ (term-Two env o left right place)
+        (fold-passes may (operator_value o (value_of env left) (value_of env right)) _
+        (two-pass may o (value_of env left) (value_of env right) (term_of env left) (term_of env right) h.0 k.0)),
+    cond-passes _ _ (cond-Two env o left right place)
+        (conds-pass (λ c. list_all may (cond_reads c)) (λ t. list_all may (term_reads t)) (composes may) o (cond_of env left) (cond_of env right) (term_of env left) (term_of env right) h.1 k.1 h.0 k.0),
+  )
 
   -- the term and the condition of a clean expression read only what may be read where it stands
   pub read-allowed : (e : Expr) (asked : Asked) → IsClean env s asked e → Pass e
   read-allowed = clean_induction env s Pass (record {
-    number = λ value place asked c.
-      (term-passes _ _ (term-Num env value place) (fold-passes may (kept (pos value)) (term.Num (pos 0)) (num may (pos 0))),
-      cond-passes _ _ (cond-Num env value place) (nothing may));
+    number = λ value place asked c. (
+      term-passes _ _ (term-Num env value place) (fold-passes may (kept (pos value)) (term.Num (pos 0)) (num may (pos 0))),
+      cond-passes _ _ (cond-Num env value place) (nothing may),
+    );
     name = on-name;
-    truth = λ value place.
-      (term-passes _ _ (term-Truth env value place) (num may (truth_value value)),
-      cond-passes _ _ (cond-Truth env value place) (truth-passes (λ c. list_all may (cond_reads c)) (λ t. list_all may (term_reads t)) (composes may) value));
+    truth = λ value place. (
+      term-passes _ _ (term-Truth env value place) (num may (truth_value value)),
+      cond-passes _ _ (cond-Truth env value place) (truth-passes (λ c. list_all may (cond_reads c)) (λ t. list_all may (term_reads t)) (composes may) value),
+    );
     prev = on-prev;
     aged = on-age;
-    denied = λ of place h.
-      (term-passes _ _ (term-Not env of place) (num may (pos 0)),
-      cond-passes _ _ (cond-Not env of place) (cond-by may _ _ (reads-Not (cond_of env of)) h.1));
-    negated = λ of place asked c inner h.
-      (term-passes _ _ (term-Neg env of place)
-      (fold-passes may (negated (value_of env of)) _ (by may _ _ (reads-Neg (term_of env of)) h.0)),
-      cond-passes _ _ (cond-Neg env of place) (nothing may));
+    denied = λ of place h. (
+      term-passes _ _ (term-Not env of place) (num may (pos 0)),
+      cond-passes _ _ (cond-Not env of place) (cond-by may _ _ (reads-Not (cond_of env of)) h.1),
+    );
+    negated = λ of place asked c inner h. (
+      term-passes _ _ (term-Neg env of place)
+          (fold-passes may (negated (value_of env of)) _ (by may _ _ (reads-Neg (term_of env of)) h.0)),
+      cond-passes _ _ (cond-Neg env of place) (nothing may),
+    );
     two = λ o left right place asked c first second h k. on-two o left right place h k;
   })

@@ -1,9 +1,8 @@
 -- What a tree without a fault spells passes each test that the terms and conditions of its clean expressions pass.
-use Rattle.std.proofs.Common.{◌≡◌, ◌∙◌, sym, ap, subst, refl, inl, inr, ℕ, ◌≤◌, Bool, true, false, ◌&&◌, List, [], ◌∷◌, ◌++◌, map, length}
-use Rattle.std.proofs.Common.{Option, Some, None, is_none, nat_le, arith, true≢false, if◌then◌else◌}
+use Rattle.std.proofs.Common.{◌≡◌, ◌∙◌, sym, subst, refl, ◌≤◌, Bool, true, ◌&&◌, List, [], ◌∷◌, ◌++◌, map, length}
+use Rattle.std.proofs.Common.{None, is_none, nat_le, leb-true, true≢false, if◌then◌else◌}
 use Rattle.std.specs.List.{flat_map, list_all}
 use Rattle.std.proofs.lemmas.Bool.{and_from, and_parts}
-use Rattle.std.proofs.lemmas.Bool.Decides.{nat_tests}
 use Rattle.ft_tree.specs.declared.expr.Expr.{Expr}
 use Rattle.ft_tree.specs.declared.item.FactItem.{FactItem}
 use Rattle.ft_tree.specs.declared.item.FactItem.TheVariants as fact_item
@@ -45,7 +44,7 @@ use Rattle.ft_names.specs.declared.walk.Role.TheVariants as role
 use Rattle.ft_names.specs.meaning.Cards.{Env}
 use Rattle.ft_names.specs.meaning.Parts.{first_part}
 use Rattle.ft_names.specs.meaning.Spots.{Spot, condition, conditions, fact_spots, item_spots, moment_site, named, number, row_spots, section_site}
-use Rattle.ft_names.specs.meaning.Spots.{spots, term_for, terms, vector_row}
+use Rattle.ft_names.specs.meaning.Spots.{term_for, terms, vector_row}
 use Rattle.ft_types.specs.meaning.Mismatch.{asked_for, mismatch, mismatch_spot}
 use Rattle.ft_types.specs.meaning.Sides.{side_in, side_spot, wrong_side}
 use Rattle.ft_measure.specs.meaning.SlopeFaults.{slope_in, slope_spot}
@@ -95,9 +94,6 @@ same-side section_word.Sof e = refl
 same-side section_word.In e = absurd (true≢false (sym e))
 same-side section_word.Out e = absurd (true≢false (sym e))
 
-few-tokens : (n : ℕ) → nat_le n 1000 ≡ true → n ≤ 1000
-few-tokens n h = grind (arith, nat_tests)
-
 alone : (b : Bool) → b ≡ true → (b && true) ≡ true
 alone b h = and_from b true h refl
 
@@ -117,7 +113,7 @@ module _ (env : Env) where
       kinds = kinds;
       slopes = same-asked (slope env) e a asked.Anything ∙ slopes;
     };
-    few = few-tokens (length (expr_pieces e))
+    few = leb-true (length (expr_pieces e)) 1000
         (three-hold (is_lawful e) (nat_le (length (expr_pieces e)) 1000) (nat_le (nested e).depth 64) lawful).1;
   }
 
@@ -201,11 +197,12 @@ module _ (of_cond : Site → Cond → Bool) (of_term : Site → Term → Bool) w
         let (head, entries) = and_parts (is_clean env (condition s row.head)) (list_all (is_clean env) (terms s w row.entries)) own in
         let (lawful, others) = and_parts (is_row row) (list_all is_row rows) k in
         let (first, second) = and_parts (is_expr row.head) (are_entries row.entries) lawful in
-        let (heads, more) = normal-rows s w rows rest others in
-        (both-pass (of_cond s (head_of env row)) (list_all (of_cond s) (map (head_of env) rows))
-        (passes.conds s row.head (fine-condition env s row.head head first)) heads,
-        both-pass (list_all (of_term s) (row_terms env row)) (list_all (list_all (of_term s)) (map (row_terms env) rows))
-        (terms-pass s w row.entries entries (exprs-of row.entries second)) more)
+        let (heads, more) = normal-rows s w rows rest others in (
+          both-pass (of_cond s (head_of env row)) (list_all (of_cond s) (map (head_of env) rows))
+              (passes.conds s row.head (fine-condition env s row.head head first)) heads,
+          both-pass (list_all (of_term s) (row_terms env row)) (list_all (list_all (of_term s)) (map (row_terms env) rows))
+              (terms-pass s w row.entries entries (exprs-of row.entries second)) more,
+        )
 
     inverted-rows : (s : Site) (w : Word) (rows : List Row) → AreClean (flat_map (row_spots Conditions s w) rows)
         → list_all is_row rows ≡ true
@@ -216,11 +213,12 @@ module _ (of_cond : Site → Cond → Bool) (of_term : Site → Term → Bool) w
         let (head, entries) = and_parts (is_clean env (condition s row.head)) (list_all (is_clean env) (conditions s row.entries)) own in
         let (lawful, others) = and_parts (is_row row) (list_all is_row rows) k in
         let (first, second) = and_parts (is_expr row.head) (are_entries row.entries) lawful in
-        let (heads, more) = inverted-rows s w rows rest others in
-        (both-pass (of_cond s (head_of env row)) (list_all (of_cond s) (map (head_of env) rows))
-        (passes.conds s row.head (fine-condition env s row.head head first)) heads,
-        both-pass (list_all (of_cond s) (row_conds env row)) (list_all (list_all (of_cond s)) (map (row_conds env) rows))
-        (conds-pass s row.entries entries (exprs-of row.entries second)) more)
+        let (heads, more) = inverted-rows s w rows rest others in (
+          both-pass (of_cond s (head_of env row)) (list_all (of_cond s) (map (head_of env) rows))
+              (passes.conds s row.head (fine-condition env s row.head head first)) heads,
+          both-pass (list_all (of_cond s) (row_conds env row)) (list_all (list_all (of_cond s)) (map (row_conds env) rows))
+              (conds-pass s row.entries entries (exprs-of row.entries second)) more,
+        )
 
     vector-rows : (w : SectionWord) (rows : List VRow) → AreClean (flat_map (vector_row w) rows) → list_all is_vrow rows ≡ true
         → list_all (list_all (of_term (section_site w))) (map (vector_terms env) rows) ≡ true
@@ -228,7 +226,7 @@ module _ (of_cond : Site → Cond → Bool) (of_term : Site → Term → Bool) w
     vector-rows w (row ∷ rows) h k =
         let (own, rest) = parts-pass (is_clean env) (vector_row w row) (flat_map (vector_row w) rows) h in
         let (head, entries) = and_parts (is_clean env (named (role.Target w) row.target))
-            (list_all (is_clean env) (terms (section_site w) row.target row.entries)) own in
+        (list_all (is_clean env) (terms (section_site w) row.target row.entries)) own in
         let (lawful, others) = and_parts (is_vrow row) (list_all is_vrow rows) k in
         let (first, second) = and_parts (is_word row.target) (are_entries row.entries) lawful in
         both-pass (list_all (of_term (section_site w)) (vector_terms env row))
@@ -257,7 +255,7 @@ module _ (of_cond : Site → Cond → Bool) (of_term : Site → Term → Bool) w
     item-tables (item.Normal w target columns rows) h k =
         let clean = (and_parts (is_clean env (named (role.Target w) target)) _ h).1 in
         let (header, body) = parts-pass (is_clean env) (conditions (section_site w) columns)
-            (flat_map (row_spots Terms (section_site w) target) rows) clean in
+        (flat_map (row_spots Terms (section_site w) target) rows) clean in
         let (word, entries, count, lawful) = four-hold (is_word target) (are_entries columns) (is_count 32 (length rows)) (list_all is_row rows) k in
         let (heads, terms) = normal-rows (section_site w) target rows body lawful in
         at-section w (normal_grid env target.text columns rows)
@@ -267,7 +265,7 @@ module _ (of_cond : Site → Cond → Bool) (of_term : Site → Term → Bool) w
     item-tables (item.Inverted w target headers rows) h k =
         let clean = (and_parts (is_clean env (named (role.Target w) target)) _ h).1 in
         let (header, body) = parts-pass (is_clean env) (terms (section_site w) target headers)
-            (flat_map (row_spots Conditions (section_site w) target) rows) clean in
+        (flat_map (row_spots Conditions (section_site w) target) rows) clean in
         let (word, entries, count, lawful) = four-hold (is_word target) (are_entries headers) (is_count 32 (length rows)) (list_all is_row rows) k in
         let (heads, conds) = inverted-rows (section_site w) target rows body lawful in
         at-section w (inverted_grid env target.text headers rows)
@@ -345,7 +343,7 @@ module _ (of_cond : Site → Cond → Bool) (of_term : Site → Term → Bool) w
     item-blocks : (x : Item) → AreClean (item_spots x) → is_item x ≡ true → list_all block_passes (build_block env x) ≡ true
     item-blocks (item.Block name takes uses facts) h k =
         let (word, listed, used, some, lawful) = five-hold (is_word name) (are_listed takes) (are_listed uses) (nat_le 1 (length facts))
-            (list_all is_fact facts) k in
+        (list_all is_fact facts) k in
         let clean = (parts-pass (is_clean env) (map (named role.Taken) takes ++ map (named role.Used) uses) (flat_map fact_spots facts) h).1 in
         alone (list_all fact_passes (map (fact_of env) facts)) (facts-pass facts clean lawful)
     item-blocks (item.Constant name sign value) h k = refl
