@@ -32,7 +32,8 @@ abbrev Test : Type 0 → Type 0
 Test Y = Asked → Expr → Option Y
 
 -- an expression is one of its own parts
-pub own-part : {Y : Type 0} (test : Asked → Expr → Option Y) (e : Expr) (asked : Asked) → first_part test asked e ≡ None → test asked e ≡ None
+pub own-part : {Y : Type 0} (test : Asked → Expr → Option Y) (e : Expr) (asked : Asked)
+    → first_part test asked e ≡ None → test asked e ≡ None
 own-part test = expr_induction (λ e. (asked : Asked) → first_part test asked e ≡ None → test asked e ≡ None) (record {
   number = λ value place asked h. sym (first-Num test asked value place) ∙ h;
   name = λ name place asked h. sym (first-Name test asked name place) ∙ h;
@@ -62,7 +63,8 @@ same-asked {Y} test = expr_induction (λ e. (a b : Asked) → first_part (λ _. 
 
 part-not : {Y : Type 0} (test : Test Y) (asked : Asked) (of : Expr) (place : Place) → first_part test asked (Not of place) ≡ None
     → first_part test Condition of ≡ None
-part-not test asked of place h = or-second (test asked (Not of place)) (first_part test Condition of) (sym (first-Not test asked of place) ∙ h)
+part-not test asked of place h =
+    or-second (test asked (Not of place)) (first_part test Condition of) (sym (first-Not test asked of place) ∙ h)
 
 part-neg : {Y : Type 0} (test : Test Y) (asked : Asked) (of : Expr) (place : Place) → first_part test asked (Neg of place) ≡ None
     → first_part test (Term Number) of ≡ None

@@ -1,5 +1,6 @@
 -- Terms that are within the size of a measure, with factors and divisors in their limits.
-use Rattle.std.proofs.Common.{◌≡◌, ◌∙◌, sym, ap, subst, refl, inl, inr, ℕ, ◌+◌, ◌-◌, ◌*◌, ◌≤◌, le_trans, max, ℤ, pos, neg_ℤ, Bool, true, false}
+use Rattle.std.proofs.Common.{◌≡◌, ◌∙◌, sym, ap, subst, refl, inl, inr, ℕ, ◌+◌, ◌-◌, ◌*◌, ◌≤◌, le_trans, max, ℤ, pos, neg_ℤ, Bool, true}
+use Rattle.std.proofs.Common.{false}
 use Rattle.std.proofs.Common.{◌&&◌, List, slice_get, Option, Some, None, if◌then◌else◌, option_map, unsigned_abs, int_le, nat_le}
 use Rattle.std.proofs.Common.{arith, le-leb, leb-true, ltb-false, true≢false, mul-le-mul_left}
 use Rattle.std.proofs.lemmas.Bool.{and_from, and_parts, cases_Bool}
@@ -15,7 +16,8 @@ use Rattle.ft_core.specs.declared.term.Term.{Term}
 use Rattle.ft_core.specs.declared.term.Term.TheVariants as term
 use Rattle.ft_core.specs.checked.Short.{is_factored}
 use Rattle.ft_core.specs.checked.Size.{age_size, is_sized_term, size_of, var_size}
-use Rattle.ft_core.specs.laws.SizeEquations.{factored-Num, factored-Now, factored-Prev, factored-Age, factored-Neg, factored-Add, factored-Sub}
+use Rattle.ft_core.specs.laws.SizeEquations.{factored-Num, factored-Now, factored-Prev, factored-Age, factored-Neg, factored-Add}
+use Rattle.ft_core.specs.laws.SizeEquations.{factored-Sub}
 use Rattle.ft_core.specs.laws.SizeEquations.{factored-Times, factored-Div, size-Num, size-Now, size-Prev, size-Age, size-Neg, size-Add}
 use Rattle.ft_core.specs.laws.SizeEquations.{size-Sub, size-Times, size-Div, small-Num, small-Now, small-Prev, small-Age, small-Neg}
 use Rattle.ft_core.specs.laws.SizeEquations.{small-Add, small-Sub, small-Times, small-Div}
@@ -153,13 +155,15 @@ module _ (vars : List Var) (memories : List Memory) where
     sized-there (Numbers lo hi) same low e = (
       range_size (lo, hi),
       ap Some (capped-same (range_size (lo, hi)) (uncapped (range_size (lo, hi)) low)),
-      subst (λ n. n ≤ range_size (lo, hi)) (sym (size-there ∙ ap (λ (vs : Values). range_size (values_range vs)) same)) (ranged-least lo hi),
+      subst (λ n. n ≤ range_size (lo, hi)) (sym (size-there ∙ ap (λ (vs : Values). range_size (values_range vs)) same))
+          (ranged-least lo hi),
     )
     sized-there Truths same low e = absurd (true≢false (sym e))
     sized-there (Members k count) same low e = absurd (true≢false (sym e))
     sized-there Untyped same low e = absurd (true≢false (sym e))
 
-    pub now-fits : is_above (of_values values).size ≡ false → TermFits (of_values values) (is_kind (values_kind values) Number) (term.Now place)
+    pub now-fits : is_above (of_values values).size ≡ false
+        → TermFits (of_values values) (is_kind (values_kind values) Number) (term.Now place)
     now-fits low = record {
       factored = factored-Now place;
       small = small-Now vars memories place ∙ small-there;
@@ -210,7 +214,8 @@ module _ (vars : List Var) (memories : List Memory) where
   }
 
   -- a sum or a difference
-  module _ (a b : Measure) (s t : Term) (fa : TermFits a true s) (fb : TermFits b true t) (low : is_above (both_sizes a.size b.size) ≡ false)
+  module _ (a b : Measure) (s t : Term) (fa : TermFits a true s) (fb : TermFits b true t)
+      (low : is_above (both_sizes a.size b.size) ≡ false)
     where
       abbrev sum : ℕ
       sum = size_of vars memories s + size_of vars memories t

@@ -1,5 +1,6 @@
 -- The value that the building of a term finds is that of its measure, where not-so part of the term is at fault.
-use Rattle.std.proofs.Common.{◌≡◌, ◌∙◌, sym, ap, subst, refl, ◌⊎◌, inl, inr, ℕ, ◌≤◌, le_trans, ℤ, pos, neg_ℤ, ◌+ℤ◌, ◌-ℤ◌, ◌*ℤ◌, Bool, true, false}
+use Rattle.std.proofs.Common.{◌≡◌, ◌∙◌, sym, ap, subst, refl, ◌⊎◌, inl, inr, ℕ, ◌≤◌, le_trans, ℤ, pos, neg_ℤ, ◌+ℤ◌, ◌-ℤ◌, ◌*ℤ◌, Bool}
+use Rattle.std.proofs.Common.{true, false}
 use Rattle.std.proofs.Common.{◌&&◌, ◌||◌, Option, Some, None, if◌then◌else◌, option_map, unsigned_abs, int_le, le-leb, true≢false}
 use Rattle.std.specs.Int.{int_div_euclid}
 use Rattle.std.proofs.lemmas.Bool.{and_parts, cases_Bool}
@@ -134,7 +135,8 @@ divided-kept (Some a) (Some b) v e k = elim (cases_Bool (int_le (pos 1) b)) [
   | inl so ↦ ap (λ t. if t then kept (floor_of a b) else None) so
       ∙ k (int_div_euclid a b) (e ∙ ap (λ t. if t then Some (int_div_euclid a b) else None) so)
       ∙ sym (e ∙ ap (λ t. if t then Some (int_div_euclid a b) else None) so)
-  | inr not-so ↦ ap (λ t. if t then kept (floor_of a b) else None) not-so ∙ sym (e ∙ ap (λ t. if t then Some (int_div_euclid a b) else None) not-so)
+  | inr not-so ↦ ap (λ t. if t then kept (floor_of a b) else None) not-so
+      ∙ sym (e ∙ ap (λ t. if t then Some (int_div_euclid a b) else None) not-so)
 ]
 divided-kept (Some a) None v e k = sym e
 divided-kept None (Some b) v e k = sym e

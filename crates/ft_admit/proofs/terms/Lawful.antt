@@ -77,7 +77,8 @@ module _ (may : Site → Read → Bool) where
       let (first, third, fourth) = three-hold (list_all (reads_of_cond s) columns) (list_all (reads_of_cond s) rows)
       (list_all (list_all (reads_of_term s)) terms) h in
       joined-passes (may s) (flat_map cond_reads columns ++ flat_map cond_reads rows) (flat_map (flat_map term_reads) terms)
-      (joined-passes (may s) (flat_map cond_reads columns) (flat_map cond_reads rows) (conds-read s columns first) (conds-read s rows third))
+      (joined-passes (may s) (flat_map cond_reads columns) (flat_map cond_reads rows)
+      (conds-read s columns first) (conds-read s rows third))
       (term-rows-read s terms fourth)
   grid-reads s (Inverted target terms rows grid) h =
       let (first, third, fourth) = three-hold (list_all (reads_of_term s) terms) (list_all (reads_of_cond s) rows)
@@ -90,7 +91,8 @@ module _ (may : Site → Read → Bool) where
       joined-passes (may s) (flat_map cond_reads columns) (flat_map (flat_map term_reads) terms) (conds-read s columns first)
       (term-rows-read s terms third)
 
-  memory-reads : (s : Site) (m : Memory) → memory_at reads_of_cond reads_of_term s m ≡ true → list_all (may s) (memory_reads (Some m)) ≡ true
+  memory-reads : (s : Site) (m : Memory) → memory_at reads_of_cond reads_of_term s m ≡ true
+      → list_all (may s) (memory_reads (Some m)) ≡ true
   memory-reads s (Held name sd c hold) h = h
   memory-reads s (Hyst name sd e lo hi start) h = h
 
@@ -145,14 +147,16 @@ each-invariant : (of_cond : Site → Cond → Bool) (of_term : Site → Term →
     → list_all (block_passes of_cond of_term) blocks ≡ true → (b f : ℕ) (block : Block) (name : List ℕ) (c : Cond)
     → slice_get blocks b ≡ Some block → slice_get block.facts f ≡ Some (Invariant name c) → of_cond site.Shows c ≡ true
 each-invariant of_cond of_term blocks h b f block name c at there =
-    all_pass (fact_passes of_cond of_term) block.facts (all_pass (block_passes of_cond of_term) blocks h block (contained blocks b block at))
+    all_pass (fact_passes of_cond of_term) block.facts
+    (all_pass (block_passes of_cond of_term) blocks h block (contained blocks b block at))
     (Invariant name c) (contained block.facts f (Invariant name c) there)
 
 three-lists : {X : Type 0} (p : X → Bool) (a b c : List X) → list_all p a ≡ true → list_all p b ≡ true → list_all p c ≡ true
     → list_all p (a ++ b ++ c) ≡ true
 three-lists p a b c h k l = joined-passes p (a ++ b) c (joined-passes p a b h k) l
 
-module _ (bounds : ValuesBounded) (linear : LinearIsSmall) (name : List ℕ) (period : Number) (splits depth : Option Number) (items : List Item)
+module _ (bounds : ValuesBounded) (linear : LinearIsSmall) (name : List ℕ) (period : Number) (splits depth : Option Number)
+    (items : List Item)
     (faultless : IsFaultless name period splits depth items) where
   abbrev env : Env
   env = env_of items
@@ -219,7 +223,8 @@ module _ (bounds : ValuesBounded) (linear : LinearIsSmall) (name : List ℕ) (pe
     tables_read = table-reads;
     memories_read = memory-reads-side;
     first_reads = each-reads (may site.First) set.first (clauses-pass (reads_of_cond may) (reads_of_term may) env reads items fine First);
-    always_reads = each-reads (may site.Always) set.always (clauses-pass (reads_of_cond may) (reads_of_term may) env reads items fine Always);
+    always_reads = each-reads (may site.Always) set.always
+        (clauses-pass (reads_of_cond may) (reads_of_term may) env reads items fine Always);
     step_reads = each-reads (may site.Step) set.step (clauses-pass (reads_of_cond may) (reads_of_term may) env reads items fine Step);
     invariants_read = λ b f block name c r at in-block in-cond.
         all_pass (may_show set.vars set.memories) (cond_reads c)
@@ -239,7 +244,8 @@ module _ (bounds : ValuesBounded) (linear : LinearIsSmall) (name : List ℕ) (pe
         (clauses-pass (sized_cond set.vars set.memories) (sized_term set.vars set.memories) env sizes items fine Step);
     invariants_sized = λ b f block name c at in-block.
         each-invariant (sized_cond set.vars set.memories) (sized_term set.vars set.memories) set.blocks
-        (blocks-pass (sized_cond set.vars set.memories) (sized_term set.vars set.memories) env sizes items fine) b f block name c at in-block;
+        (blocks-pass (sized_cond set.vars set.memories) (sized_term set.vars set.memories) env sizes items fine)
+        b f block name c at in-block;
     short = record {
       of_memories = all-follow (memory_passes short_cond short_term) is_short_memory set.memories
           (λ m h. memory-short (side_place (side_of m)) m h) (memories-pass short_cond short_term env lengths items fine);
@@ -251,7 +257,8 @@ module _ (bounds : ValuesBounded) (linear : LinearIsSmall) (name : List ℕ) (pe
           (clauses-pass short_cond short_term env lengths items fine Step);
     };
     invariants_short = λ b f block name c at in-block.
-        each-invariant short_cond short_term set.blocks (blocks-pass short_cond short_term env lengths items fine) b f block name c at in-block;
+        each-invariant short_cond short_term set.blocks (blocks-pass short_cond short_term env lengths items fine)
+        b f block name c at in-block;
   }
 
 -- whatever the tree is

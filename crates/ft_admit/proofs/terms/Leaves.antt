@@ -1,7 +1,6 @@
 -- The term of an expression has at most as many leaves as the expression has tokens.
-use Rattle.std.proofs.Common.{◌≡◌, ◌∙◌, sym, ap, subst, inl, inr, ℕ, ◌+◌, ◌≤◌, le_trans, ℤ, pos, List, [], ◌∷◌, ◌++◌, length}
+use Rattle.std.proofs.Common.{◌≡◌, Bool, true, false, ◌∙◌, sym, ap, subst, ℕ, ◌+◌, ◌≤◌, le_trans, ℤ, pos, List, [], ◌∷◌, ◌++◌, length}
 use Rattle.std.proofs.Common.{Option, Some, None, arith, length-append, codes, if◌then◌else◌}
-use Rattle.std.proofs.lemmas.Bool.{cases_Bool}
 use Rattle.ft_base.specs.declared.place.Place.{Place}
 use Rattle.ft_tree.specs.declared.expr.Op.{Op}
 use Rattle.ft_tree.specs.declared.expr.Op.TheVariants as op
@@ -32,14 +31,16 @@ long s = length s.pieces
 wrapped : (pieces : List Piece) (first last : Piece) → length pieces ≤ length (first ∷ (pieces ++ last ∷ []))
 wrapped pieces first last = let same = length-append pieces (last ∷ []) in omega (arith, same)
 
+abbrev in_parentheses : Bool → List Piece → List Piece
+in_parentheses b pieces = if b then token (codes "(") ∷ (pieces ++ token (codes ")") ∷ []) else pieces
+
+no-shorter : (b : Bool) (pieces : List Piece) → length pieces ≤ length (in_parentheses b pieces)
+no-shorter true pieces = wrapped pieces (token (codes "(")) (token (codes ")"))
+no-shorter false pieces = omega arith
+
 operand-long : (needed : Level) (part : Spelled) → length part.pieces ≤ length (operand needed part)
 unfolding operand
-operand-long needed part = elim (cases_Bool (is_looser part.level needed)) [
-  | inl so ↦ subst (λ b. length part.pieces ≤ length (if b then token (codes "(") ∷ (part.pieces ++ token (codes ")") ∷ []) else part.pieces))
-      (sym so) (wrapped part.pieces (token (codes "(")) (token (codes ")")))
-  | inr not-so ↦ subst (λ b. length part.pieces ≤ length (if b then token (codes "(") ∷ (part.pieces ++ token (codes ")") ∷ []) else part.pieces))
-      (sym not-so) (omega arith)
-]
+operand-long needed part = no-shorter (is_looser part.level needed) part.pieces
 
 pub longer-not : (of : Expr) (place : Place) → length (expr_pieces of) + 1 ≤ length (expr_pieces (Not of place))
 longer-not of place =
@@ -144,18 +145,22 @@ module _ (env : Env) where
   few-terms = expr_induction IsFew (record {
     number = λ value place. few _ _ 1 (term-Num env value place) (counted _ _ 1 (spelled-Num value place) (omega arith))
         (fold-leaves (kept (pos value)) (term.Num (pos 0)) 1 (omega arith) (one-leaf (pos 0) 1 (omega arith)));
-    name = λ name place. few _ _ 1 (term-Name env name place) (counted _ _ 1 (spelled-Name name place) (omega arith)) (name-leaves (env name));
+    name = λ name place. few _ _ 1 (term-Name env name place) (counted _ _ 1 (spelled-Name name place) (omega arith))
+        (name-leaves (env name));
     truth = λ value place. few _ _ 1 (term-Truth env value place) (counted _ _ 1 (spelled-Truth value place) (omega arith))
         (one-leaf (truth_value value) 1 (omega arith));
-    prev = λ name place. few _ _ 1 (term-Prev env name place) (counted _ _ 1 (spelled-Prev name place) (omega arith)) (prev-leaves (env name));
+    prev = λ name place. few _ _ 1 (term-Prev env name place) (counted _ _ 1 (spelled-Prev name place) (omega arith))
+        (prev-leaves (env name));
     aged = λ name place. few _ _ 1 (term-Age env name place) (counted _ _ 1 (spelled-Age name place) (omega arith)) (age-leaves (env name));
-    denied = λ of place h. few _ _ 1 (term-Not env of place) (let l = longer-not of place in omega (arith, l)) (one-leaf (pos 0) 1 (omega arith));
+    denied = λ of place h. few _ _ 1 (term-Not env of place) (let l = longer-not of place in omega (arith, l))
+        (one-leaf (pos 0) 1 (omega arith));
     negated = λ of place h. few _ _ (length (expr_pieces of) + 1) (term-Neg env of place) (longer-neg of place)
         (fold-leaves (negated (value_of env of)) (term.Neg (term_of env of)) (length (expr_pieces of) + 1) (omega arith)
         (let same = leaves-Neg (term_of env of) in omega (arith, same, h)));
     two = λ o left right place h k. few _ _ (length (expr_pieces left) + length (expr_pieces right) + 1) (term-Two env o left right place)
         (longer-two o left right place)
-        (fold-leaves (operator_value o (value_of env left) (value_of env right)) _ (length (expr_pieces left) + length (expr_pieces right) + 1)
+        (fold-leaves (operator_value o (value_of env left) (value_of env right)) _
+        (length (expr_pieces left) + length (expr_pieces right) + 1)
         (omega arith)
         (few-leaves (term_of env left) (term_of env right) (length (expr_pieces left)) (length (expr_pieces right)) h k o
         (value_of env left) (value_of env right)));

@@ -337,7 +337,8 @@ module _ (env : Env) (vars : List Var) (memories : List Memory) (there : AreTher
         (fold-passes may (operator_value o (value_of env left) (value_of env right)) _
         (two-pass may o (value_of env left) (value_of env right) (term_of env left) (term_of env right) h.0 k.0)),
     cond-passes _ _ (cond-Two env o left right place)
-        (conds-pass (λ c. list_all may (cond_reads c)) (λ t. list_all may (term_reads t)) (composes may) o (cond_of env left) (cond_of env right) (term_of env left) (term_of env right) h.1 k.1 h.0 k.0),
+        (conds-pass (λ c. list_all may (cond_reads c)) (λ t. list_all may (term_reads t)) (composes may) o
+        (cond_of env left) (cond_of env right) (term_of env left) (term_of env right) h.1 k.1 h.0 k.0),
   )
 
   -- the term and the condition of a clean expression read only what may be read where it stands
@@ -350,7 +351,8 @@ module _ (env : Env) (vars : List Var) (memories : List Memory) (there : AreTher
     name = on-name;
     truth = λ value place. (
       term-passes _ _ (term-Truth env value place) (num may (truth_value value)),
-      cond-passes _ _ (cond-Truth env value place) (truth-passes (λ c. list_all may (cond_reads c)) (λ t. list_all may (term_reads t)) (composes may) value),
+      cond-passes _ _ (cond-Truth env value place)
+          (truth-passes (λ c. list_all may (cond_reads c)) (λ t. list_all may (term_reads t)) (composes may) value),
     );
     prev = on-prev;
     aged = on-age;

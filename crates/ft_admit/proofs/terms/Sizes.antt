@@ -47,7 +47,8 @@ use Rattle.ft_build.specs.laws.Terms.{value-Num, value-Name, value-Truth, value-
 use Rattle.ft_admit.proofs.terms.Clean.{IsClean, clean_induction, is-linear, is-what-is-asked}
 use Rattle.ft_admit.proofs.terms.Cards.{AreThere}
 use Rattle.ft_admit.proofs.terms.Compose.{Composes, conds-pass, truth-passes}
-use Rattle.ft_admit.proofs.terms.Known.{IsKnown, age-known, constant-known, joined-value, name-known, negation-known, nothing-known, prev-known}
+use Rattle.ft_admit.proofs.terms.Known.{IsKnown, age-known, constant-known, joined-value, name-known, negation-known, nothing-known}
+use Rattle.ft_admit.proofs.terms.Known.{prev-known}
 use Rattle.ft_admit.proofs.terms.Known.{two-known}
 use Rattle.ft_admit.proofs.terms.Fits.{TermFits, age-fits, constant-fits, fold-fits, name-fits, neg-fits, other-fits, prev-fits, two-fits}
 use Rattle.ft_admit.proofs.terms.Fits.{zero-fits}
@@ -210,7 +211,8 @@ module _ (bounds : ValuesBounded) (linear : LinearIsSmall) (env : Env) (vars : L
       number-fits known small =
           let (z, is) = known.constant refl in
           let same : z ≡ pos value = same-number z is small in
-          subst (λ v. TermFits vars memories (of_constant (pos value)) true (folded v (term.Num (pos 0)))) (sym (known.value ∙ is ∙ ap Some same))
+          subst (λ v. TermFits vars memories (of_constant (pos value)) true (folded v (term.Num (pos 0))))
+          (sym (known.value ∙ is ∙ ap Some same))
           (constant-fits vars memories (pos value) true small.size)
         where
           same-number : (z : ℤ) → (of_constant (pos value)).value ≡ Some z → IsSmall (of_constant (pos value)) → z ≡ pos value
@@ -223,7 +225,8 @@ module _ (bounds : ValuesBounded) (linear : LinearIsSmall) (env : Env) (vars : L
       let fits = name-fits vars memories env there name (env name) refl small.size in
       let conds = name-conds name (env name) refl fits in
       record {
-        known = known-by (Name name place) _ _ (measure-Name env name place) (value-Name env name place) (name-known (env name) small bounded);
+        known = known-by (Name name place) _ _ (measure-Name env name place) (value-Name env name place)
+            (name-known (env name) small bounded);
         fits = fits-by (Name name place) _ _ _ (measure-Name env name place) (kind-Name env name place) (term-Name env name place) fits;
         sized = sized-by _ _ (cond-Name env name place) conds.0;
         short = λ few. short-by _ _ (cond-Name env name place) conds.1;
@@ -234,7 +237,8 @@ module _ (bounds : ValuesBounded) (linear : LinearIsSmall) (env : Env) (vars : L
     known = known-by (Truth value place) _ _ (measure-Truth env value place) (value-Truth env value place) nothing-known;
     fits = fits-by (Truth value place) _ _ _ (measure-Truth env value place) (kind-Truth env value place) (term-Truth env value place)
         (other-fits vars memories unmeasured (truth_value value) (truth-small value));
-    sized = sized-by _ _ (cond-Truth env value place) (truth-passes (is_sized vars memories) (is_sized_term vars memories) sizes-compose value);
+    sized = sized-by _ _ (cond-Truth env value place)
+        (truth-passes (is_sized vars memories) (is_sized_term vars memories) sizes-compose value);
     short = λ few. short-by _ _ (cond-Truth env value place) (truth-passes is_short is_short_term lengths-compose value);
   }
 
@@ -242,7 +246,8 @@ module _ (bounds : ValuesBounded) (linear : LinearIsSmall) (env : Env) (vars : L
   of-before name place asked c =
       let small = small-by (Prev name place) _ asked (measure-Prev env name place) c in
       let fits = prev-fits vars memories env there name (env name) refl small.size in
-      let whole = fits-by (Prev name place) _ _ _ (measure-Prev env name place) (kind-Prev env name place) (term-Prev env name place) fits in
+      let whole = fits-by (Prev name place) _ _ _ (measure-Prev env name place) (kind-Prev env name place)
+      (term-Prev env name place) fits in
       let is : cond_of env (Prev name place) ≡ is_one (term_of env (Prev name place)) =
       cond-Prev env name place ∙ ap is_one (sym (term-Prev env name place)) in
       record {
@@ -285,7 +290,8 @@ module _ (bounds : ValuesBounded) (linear : LinearIsSmall) (env : Env) (vars : L
       record {
         known = known-by (Neg of place) _ _ (measure-Neg env of place) (value-Neg env of place) known;
         fits = fits-by (Neg of place) _ _ _ (measure-Neg env of place) (kind-Neg env of place) (term-Neg env of place)
-            (fold-fits vars memories (of_negation (measure env of)) true (negated (value_of env of)) (term.Neg (term_of env of)) bounded known.value
+            (fold-fits vars memories (of_negation (measure env of)) true (negated (value_of env of)) (term.Neg (term_of env of))
+            bounded known.value
             (neg-fits vars memories (measure env of) (term_of env of) (linear env (asking.Term Number) of inner.slopes) part));
         sized = none-sized (Neg of place) (cond-Neg env of place);
         short = none-short (Neg of place) (cond-Neg env of place);
@@ -320,7 +326,8 @@ module _ (bounds : ValuesBounded) (linear : LinearIsSmall) (env : Env) (vars : L
             let less : length (expr_pieces left) ≤ 1000 = omega (arith, longer, few) in
             let least : length (expr_pieces right) ≤ 1000 = omega (arith, longer, few) in
             short-by _ _ (cond-Two env o left right place)
-            (conds-pass is_short is_short_term lengths-compose o (cond_of env left) (cond_of env right) (term_of env left) (term_of env right)
+            (conds-pass is_short is_short_term lengths-compose o (cond_of env left) (cond_of env right)
+            (term_of env left) (term_of env right)
             (h.short less) (k.short least) (term-short left less h.fits.factored) (term-short right least k.fits.factored));
       }
 

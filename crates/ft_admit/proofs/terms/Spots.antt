@@ -43,7 +43,8 @@ use Rattle.ft_names.specs.declared.walk.Entries.TheVariants.{Conditions, Terms}
 use Rattle.ft_names.specs.declared.walk.Role.TheVariants as role
 use Rattle.ft_names.specs.meaning.Cards.{Env}
 use Rattle.ft_names.specs.meaning.Parts.{first_part}
-use Rattle.ft_names.specs.meaning.Spots.{Spot, condition, conditions, fact_spots, item_spots, moment_site, named, number, row_spots, section_site}
+use Rattle.ft_names.specs.meaning.Spots.{Spot, condition, conditions, fact_spots, item_spots, moment_site, named, number, row_spots}
+use Rattle.ft_names.specs.meaning.Spots.{section_site}
 use Rattle.ft_names.specs.meaning.Spots.{term_for, terms, vector_row}
 use Rattle.ft_types.specs.meaning.Mismatch.{asked_for, mismatch, mismatch_spot}
 use Rattle.ft_types.specs.meaning.Sides.{side_in, side_spot, wrong_side}
@@ -51,7 +52,8 @@ use Rattle.ft_measure.specs.meaning.SlopeFaults.{slope_in, slope_spot}
 use Rattle.ft_measure.specs.meaning.Slopes.{slope}
 use Rattle.ft_build.specs.meaning.Blocks.{build_block, fact_of}
 use Rattle.ft_build.specs.meaning.Conditions.{cond_of}
-use Rattle.ft_build.specs.meaning.Tables.{build_clause, build_memory, build_table, head_of, inverted_grid, is_moment, normal_grid, row_conds}
+use Rattle.ft_build.specs.meaning.Tables.{build_clause, build_memory, build_table, head_of, inverted_grid, is_moment, normal_grid}
+use Rattle.ft_build.specs.meaning.Tables.{row_conds}
 use Rattle.ft_build.specs.meaning.Tables.{row_terms, section_of, side_of as side_by, vector_grid, vector_terms}
 use Rattle.ft_build.specs.meaning.Terms.{term_of}
 use Rattle.ft_admit.proofs.terms.Lists.{all-flat_map, all-follow, is-none, parts-pass}
@@ -247,7 +249,8 @@ module _ (of_cond : Site → Cond → Bool) (of_term : Site → Term → Bool) w
         let (lawful, others) = and_parts (is_fact (fact_item.Goal con)) (list_all is_fact facts) k in
         facts-pass facts rest others
 
-    at-section : (w : SectionWord) (g : Grid) → grid_passes (section_site w) g ≡ true → (grid_passes (section_place (section_of w)) g && true)
+    at-section : (w : SectionWord) (g : Grid) → grid_passes (section_site w) g ≡ true
+        → (grid_passes (section_place (section_of w)) g && true)
         ≡ true
     at-section w g h = alone (grid_passes (section_place (section_of w)) g) (subst (λ s. grid_passes s g ≡ true) (sym (same-section w)) h)
 
@@ -256,20 +259,24 @@ module _ (of_cond : Site → Cond → Bool) (of_term : Site → Term → Bool) w
         let clean = (and_parts (is_clean env (named (role.Target w) target)) _ h).1 in
         let (header, body) = parts-pass (is_clean env) (conditions (section_site w) columns)
         (flat_map (row_spots Terms (section_site w) target) rows) clean in
-        let (word, entries, count, lawful) = four-hold (is_word target) (are_entries columns) (is_count 32 (length rows)) (list_all is_row rows) k in
+        let (word, entries, count, lawful) = four-hold (is_word target) (are_entries columns) (is_count 32 (length rows))
+        (list_all is_row rows) k in
         let (heads, terms) = normal-rows (section_site w) target rows body lawful in
         at-section w (normal_grid env target.text columns rows)
-        (three-pass (list_all (of_cond (section_site w)) (map (cond_of env) columns)) (list_all (of_cond (section_site w)) (map (head_of env) rows))
+        (three-pass (list_all (of_cond (section_site w)) (map (cond_of env) columns))
+        (list_all (of_cond (section_site w)) (map (head_of env) rows))
         (list_all (list_all (of_term (section_site w))) (map (row_terms env) rows))
         (conds-pass (section_site w) columns header (exprs-of columns entries)) heads terms)
     item-tables (item.Inverted w target headers rows) h k =
         let clean = (and_parts (is_clean env (named (role.Target w) target)) _ h).1 in
         let (header, body) = parts-pass (is_clean env) (terms (section_site w) target headers)
         (flat_map (row_spots Conditions (section_site w) target) rows) clean in
-        let (word, entries, count, lawful) = four-hold (is_word target) (are_entries headers) (is_count 32 (length rows)) (list_all is_row rows) k in
+        let (word, entries, count, lawful) = four-hold (is_word target) (are_entries headers) (is_count 32 (length rows))
+        (list_all is_row rows) k in
         let (heads, conds) = inverted-rows (section_site w) target rows body lawful in
         at-section w (inverted_grid env target.text headers rows)
-        (three-pass (list_all (of_term (section_site w)) (map (term_of env) headers)) (list_all (of_cond (section_site w)) (map (head_of env) rows))
+        (three-pass (list_all (of_term (section_site w)) (map (term_of env) headers))
+        (list_all (of_cond (section_site w)) (map (head_of env) rows))
         (list_all (list_all (of_cond (section_site w))) (map (row_conds env) rows))
         (terms-pass (section_site w) target headers header (exprs-of headers entries)) heads conds)
     item-tables (item.Vector w columns rows) h k =
@@ -344,7 +351,8 @@ module _ (of_cond : Site → Cond → Bool) (of_term : Site → Term → Bool) w
     item-blocks (item.Block name takes uses facts) h k =
         let (word, listed, used, some, lawful) = five-hold (is_word name) (are_listed takes) (are_listed uses) (nat_le 1 (length facts))
         (list_all is_fact facts) k in
-        let clean = (parts-pass (is_clean env) (map (named role.Taken) takes ++ map (named role.Used) uses) (flat_map fact_spots facts) h).1 in
+        let clean = (parts-pass (is_clean env) (map (named role.Taken) takes ++ map (named role.Used) uses)
+        (flat_map fact_spots facts) h).1 in
         alone (list_all fact_passes (map (fact_of env) facts)) (facts-pass facts clean lawful)
     item-blocks (item.Constant name sign value) h k = refl
     item-blocks (item.RangeType name lo hi) h k = refl
