@@ -1,7 +1,6 @@
 -- What a declared name stands for is in the set: its variable with its kind and range, its memory with its side and hold.
 use Rattle.std.proofs.Common.{◌≡◌, ◌∙◌, sym, ap, subst, refl, inl, inr, ℕ, zero, suc, ◌+◌, ◌≤◌, ℤ, Bool, true, false, cond, List, [], ◌∷◌}
-use Rattle.std.proofs.Common.{◌++◌}
-use Rattle.std.proofs.Common.{length, map, take, slice_get, find, option_map, bytes_eq, Option, Some, None, count_by, arith, leb-true}
+use Rattle.std.proofs.Common.{◌++◌, length, map, take, slice_get, find, option_map, bytes_eq, Option, Some, None, count_by, arith, leb-true}
 use Rattle.std.proofs.Common.{nat_le}
 use Rattle.std.specs.List.{enumerate_from, flat_map, list_all}
 use Rattle.std.proofs.Math.Nat.{add-zero, zero-add, add-suc, suc-add}

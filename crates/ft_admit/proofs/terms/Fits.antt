@@ -1,7 +1,6 @@
 -- Terms that are within the size of a measure, with factors and divisors in their limits.
 use Rattle.std.proofs.Common.{◌≡◌, ◌∙◌, sym, ap, subst, refl, inl, inr, ℕ, ◌+◌, ◌-◌, ◌*◌, ◌≤◌, le_trans, max, ℤ, pos, neg_ℤ, Bool, true}
-use Rattle.std.proofs.Common.{false}
-use Rattle.std.proofs.Common.{◌&&◌, List, slice_get, Option, Some, None, if◌then◌else◌, option_map, unsigned_abs, int_le, nat_le}
+use Rattle.std.proofs.Common.{false, ◌&&◌, List, slice_get, Option, Some, None, if◌then◌else◌, option_map, unsigned_abs, int_le, nat_le}
 use Rattle.std.proofs.Common.{arith, le-leb, leb-true, ltb-false, true≢false, mul-le-mul_left}
 use Rattle.std.proofs.lemmas.Bool.{and_from, and_parts, cases_Bool}
 use Rattle.std.proofs.lemmas.Option.{none-some, same_Some}
@@ -17,10 +16,9 @@ use Rattle.ft_core.specs.declared.term.Term.TheVariants as term
 use Rattle.ft_core.specs.checked.Short.{is_factored}
 use Rattle.ft_core.specs.checked.Size.{age_size, is_sized_term, size_of, var_size}
 use Rattle.ft_core.specs.laws.SizeEquations.{factored-Num, factored-Now, factored-Prev, factored-Age, factored-Neg, factored-Add}
-use Rattle.ft_core.specs.laws.SizeEquations.{factored-Sub}
-use Rattle.ft_core.specs.laws.SizeEquations.{factored-Times, factored-Div, size-Num, size-Now, size-Prev, size-Age, size-Neg, size-Add}
-use Rattle.ft_core.specs.laws.SizeEquations.{size-Sub, size-Times, size-Div, small-Num, small-Now, small-Prev, small-Age, small-Neg}
-use Rattle.ft_core.specs.laws.SizeEquations.{small-Add, small-Sub, small-Times, small-Div}
+use Rattle.ft_core.specs.laws.SizeEquations.{factored-Sub, factored-Times, factored-Div, size-Num, size-Now, size-Prev, size-Age, size-Neg}
+use Rattle.ft_core.specs.laws.SizeEquations.{size-Add, size-Sub, size-Times, size-Div, small-Num, small-Now, small-Prev, small-Age}
+use Rattle.ft_core.specs.laws.SizeEquations.{small-Neg, small-Add, small-Sub, small-Times, small-Div}
 use Rattle.ft_names.specs.declared.asked.ExprKind.{ExprKind}
 use Rattle.ft_names.specs.declared.asked.ExprKind.TheVariants.{Number, Nothing}
 use Rattle.ft_names.specs.declared.card.Card.{Card}

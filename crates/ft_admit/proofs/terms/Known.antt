@@ -1,7 +1,6 @@
 -- The value that the building of a term finds is that of its measure, where not-so part of the term is at fault.
-use Rattle.std.proofs.Common.{◌≡◌, ◌∙◌, sym, ap, subst, refl, ◌⊎◌, inl, inr, ℕ, ◌≤◌, le_trans, ℤ, pos, neg_ℤ, ◌+ℤ◌, ◌-ℤ◌, ◌*ℤ◌, Bool}
-use Rattle.std.proofs.Common.{true, false}
-use Rattle.std.proofs.Common.{◌&&◌, ◌||◌, Option, Some, None, if◌then◌else◌, option_map, unsigned_abs, int_le, le-leb, true≢false}
+use Rattle.std.proofs.Common.{◌≡◌, ◌∙◌, sym, ap, subst, refl, ◌⊎◌, inl, inr, ℕ, ◌≤◌, le_trans, ℤ, pos, neg_ℤ, ◌+ℤ◌, ◌-ℤ◌, ◌*ℤ◌, Bool, true}
+use Rattle.std.proofs.Common.{false, ◌&&◌, ◌||◌, Option, Some, None, if◌then◌else◌, option_map, unsigned_abs, int_le, le-leb, true≢false}
 use Rattle.std.specs.Int.{int_div_euclid}
 use Rattle.std.proofs.lemmas.Bool.{and_parts, cases_Bool}
 use Rattle.ft_base.specs.Division.{floor_of}

@@ -1,6 +1,6 @@
 -- What terms and conditions read may be read where their expressions stand, if no part stands on the wrong side.
-use Rattle.std.proofs.Common.{◌≡◌, ◌∙◌, sym, ap, refl, ℕ, ℤ, pos, Bool, true, false, ◌||◌, ◌&&◌, not, List, [], ◌∷◌, ◌++◌, length}
-use Rattle.std.proofs.Common.{Option, Some, None, codes, lt-ltb, true≢false}
+use Rattle.std.proofs.Common.{◌≡◌, ◌∙◌, sym, ap, refl, ℕ, ℤ, pos, Bool, true, false, ◌||◌, ◌&&◌, not, List, [], ◌∷◌, ◌++◌, length, Option}
+use Rattle.std.proofs.Common.{Some, None, codes, lt-ltb, true≢false}
 use Rattle.std.specs.List.{list_all}
 use Rattle.std.proofs.lemmas.Bool.{not-false}
 use Rattle.std.proofs.lemmas.Option.{slice_get_within}
@@ -46,11 +46,11 @@ use Rattle.ft_types.specs.meaning.Sides.{has_age, has_prev, is_designed, is_moni
 use Rattle.ft_types.specs.meaning.Sides.{reads, remembers, same_section_word, wrong_history, wrong_name, wrong_side}
 use Rattle.ft_build.specs.meaning.Conditions.{cond_of, is_one, name_cond}
 use Rattle.ft_build.specs.meaning.Tables.{side_of as side_by}
-use Rattle.ft_build.specs.meaning.Terms.{age_term, folded, name_term, negated, operator_term, operator_value, prev_term, product_term}
-use Rattle.ft_build.specs.meaning.Terms.{kept, quotient_term, term_of, truth_value, value_of}
+use Rattle.ft_build.specs.meaning.Terms.{age_term, folded, name_term, negated, operator_term, operator_value, prev_term, product_term, kept}
+use Rattle.ft_build.specs.meaning.Terms.{quotient_term, term_of, truth_value, value_of}
 use Rattle.ft_build.specs.meaning.Variables.{var_kind}
-use Rattle.ft_build.specs.laws.Terms.{term-Num, term-Name, term-Truth, term-Prev, term-Age, term-Not, term-Neg, term-Two}
-use Rattle.ft_build.specs.laws.Terms.{cond-Num, cond-Name, cond-Truth, cond-Prev, cond-Age, cond-Not, cond-Neg, cond-Two}
+use Rattle.ft_build.specs.laws.Terms.{term-Num, term-Name, term-Truth, term-Prev, term-Age, term-Not, term-Neg, term-Two, cond-Num}
+use Rattle.ft_build.specs.laws.Terms.{cond-Name, cond-Truth, cond-Prev, cond-Age, cond-Not, cond-Neg, cond-Two}
 use Rattle.ft_admit.proofs.terms.Lists.{if-passed, joined-passes}
 use Rattle.ft_admit.proofs.terms.Clean.{IsClean, clean_induction, is-on-side, is-right}
 use Rattle.ft_admit.proofs.terms.Compose.{Composes, conds-pass, truth-passes}

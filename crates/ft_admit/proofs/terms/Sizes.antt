@@ -1,6 +1,6 @@
 -- The terms and conditions of clean expressions are sized and short.
-use Rattle.std.proofs.Common.{◌≡◌, ◌∙◌, sym, ap, subst, refl, ℕ, ◌≤◌, ℤ, pos, Bool, true, false, List, length}
-use Rattle.std.proofs.Common.{Option, Some, None, arith, le-leb, nat_le, if◌then◌else◌, unsigned_abs}
+use Rattle.std.proofs.Common.{◌≡◌, ◌∙◌, sym, ap, subst, refl, ℕ, ◌≤◌, ℤ, pos, Bool, true, false, List, length, Option, Some, None, arith}
+use Rattle.std.proofs.Common.{le-leb, nat_le, if◌then◌else◌, unsigned_abs}
 use Rattle.std.proofs.lemmas.Option.{same_Some}
 use Rattle.std.proofs.lemmas.Bool.{and_from}
 use Rattle.ft_base.specs.declared.place.Place.{Place}
@@ -39,17 +39,15 @@ use Rattle.ft_measure.specs.laws.Bounded.{IsBounded, IsSmall, LinearIsSmall, Val
 use Rattle.ft_measure.specs.laws.Layers.{measure-Num, measure-Name, measure-Truth, measure-Prev, measure-Age, measure-Not, measure-Neg}
 use Rattle.ft_measure.specs.laws.Layers.{measure-Two, slope-Two}
 use Rattle.ft_build.specs.meaning.Conditions.{cond_of, is_one, name_cond}
-use Rattle.ft_build.specs.meaning.Terms.{folded, kept, name_term, negated, operator_value}
-use Rattle.ft_build.specs.meaning.Terms.{term_of, truth_value, value_of}
-use Rattle.ft_build.specs.laws.Terms.{term-Num, term-Name, term-Truth, term-Prev, term-Age, term-Not, term-Neg, term-Two}
-use Rattle.ft_build.specs.laws.Terms.{cond-Num, cond-Name, cond-Truth, cond-Prev, cond-Age, cond-Not, cond-Neg, cond-Two}
-use Rattle.ft_build.specs.laws.Terms.{value-Num, value-Name, value-Truth, value-Prev, value-Age, value-Not, value-Neg, value-Two}
+use Rattle.ft_build.specs.meaning.Terms.{folded, kept, name_term, negated, operator_value, term_of, truth_value, value_of}
+use Rattle.ft_build.specs.laws.Terms.{term-Num, term-Name, term-Truth, term-Prev, term-Age, term-Not, term-Neg, term-Two, cond-Num}
+use Rattle.ft_build.specs.laws.Terms.{cond-Name, cond-Truth, cond-Prev, cond-Age, cond-Not, cond-Neg, cond-Two, value-Num, value-Name}
+use Rattle.ft_build.specs.laws.Terms.{value-Truth, value-Prev, value-Age, value-Not, value-Neg, value-Two}
 use Rattle.ft_admit.proofs.terms.Clean.{IsClean, clean_induction, is-linear, is-what-is-asked}
 use Rattle.ft_admit.proofs.terms.Cards.{AreThere}
 use Rattle.ft_admit.proofs.terms.Compose.{Composes, conds-pass, truth-passes}
 use Rattle.ft_admit.proofs.terms.Known.{IsKnown, age-known, constant-known, joined-value, name-known, negation-known, nothing-known}
-use Rattle.ft_admit.proofs.terms.Known.{prev-known}
-use Rattle.ft_admit.proofs.terms.Known.{two-known}
+use Rattle.ft_admit.proofs.terms.Known.{prev-known, two-known}
 use Rattle.ft_admit.proofs.terms.Fits.{TermFits, age-fits, constant-fits, fold-fits, name-fits, neg-fits, other-fits, prev-fits, two-fits}
 use Rattle.ft_admit.proofs.terms.Fits.{zero-fits}
 use Rattle.ft_admit.proofs.terms.Leaves.{few-terms, longer-not, longer-two}

@@ -1,6 +1,6 @@
 -- What a tree without a fault spells passes each test that the terms and conditions of its clean expressions pass.
-use Rattle.std.proofs.Common.{◌≡◌, ◌∙◌, sym, subst, refl, ◌≤◌, Bool, true, ◌&&◌, List, [], ◌∷◌, ◌++◌, map, length}
-use Rattle.std.proofs.Common.{None, is_none, nat_le, leb-true, true≢false, if◌then◌else◌}
+use Rattle.std.proofs.Common.{◌≡◌, ◌∙◌, sym, subst, refl, ◌≤◌, Bool, true, ◌&&◌, List, [], ◌∷◌, ◌++◌, map, length, None, is_none, nat_le}
+use Rattle.std.proofs.Common.{leb-true, true≢false, if◌then◌else◌}
 use Rattle.std.specs.List.{flat_map, list_all}
 use Rattle.std.proofs.lemmas.Bool.{and_from, and_parts}
 use Rattle.ft_tree.specs.declared.expr.Expr.{Expr}
@@ -44,8 +44,7 @@ use Rattle.ft_names.specs.declared.walk.Role.TheVariants as role
 use Rattle.ft_names.specs.meaning.Cards.{Env}
 use Rattle.ft_names.specs.meaning.Parts.{first_part}
 use Rattle.ft_names.specs.meaning.Spots.{Spot, condition, conditions, fact_spots, item_spots, moment_site, named, number, row_spots}
-use Rattle.ft_names.specs.meaning.Spots.{section_site}
-use Rattle.ft_names.specs.meaning.Spots.{term_for, terms, vector_row}
+use Rattle.ft_names.specs.meaning.Spots.{section_site, term_for, terms, vector_row}
 use Rattle.ft_types.specs.meaning.Mismatch.{asked_for, mismatch, mismatch_spot}
 use Rattle.ft_types.specs.meaning.Sides.{side_in, side_spot, wrong_side}
 use Rattle.ft_measure.specs.meaning.SlopeFaults.{slope_in, slope_spot}
@@ -53,8 +52,7 @@ use Rattle.ft_measure.specs.meaning.Slopes.{slope}
 use Rattle.ft_build.specs.meaning.Blocks.{build_block, fact_of}
 use Rattle.ft_build.specs.meaning.Conditions.{cond_of}
 use Rattle.ft_build.specs.meaning.Tables.{build_clause, build_memory, build_table, head_of, inverted_grid, is_moment, normal_grid}
-use Rattle.ft_build.specs.meaning.Tables.{row_conds}
-use Rattle.ft_build.specs.meaning.Tables.{row_terms, section_of, side_of as side_by, vector_grid, vector_terms}
+use Rattle.ft_build.specs.meaning.Tables.{row_conds, row_terms, section_of, side_of as side_by, vector_grid, vector_terms}
 use Rattle.ft_build.specs.meaning.Terms.{term_of}
 use Rattle.ft_admit.proofs.terms.Lists.{all-flat_map, all-follow, is-none, parts-pass}
 use Rattle.ft_admit.proofs.terms.Clean.{IsClean, same-asked}
@@ -98,9 +96,6 @@ same-side section_word.Out e = absurd (true≢false (sym e))
 
 alone : (b : Bool) → b ≡ true → (b && true) ≡ true
 alone b h = and_from b true h refl
-
-both-pass : (a b : Bool) → a ≡ true → b ≡ true → (a && b) ≡ true
-both-pass a b h k = and_from a b h k
 
 three-pass : (a b c : Bool) → a ≡ true → b ≡ true → c ≡ true → (a && b && c) ≡ true
 three-pass a b c h k l = and_from (a && b) c (and_from a b h k) l
@@ -176,7 +171,7 @@ module _ (of_cond : Site → Cond → Bool) (of_term : Site → Term → Bool) w
     conds-pass s (e ∷ es) h k =
         let clean = and_parts (is_clean env (condition s e)) (list_all (is_clean env) (conditions s es)) h in
         let lawful = and_parts (is_expr e) (list_all is_expr es) k in
-        both-pass (of_cond s (cond_of env e)) (list_all (of_cond s) (map (cond_of env) es))
+        and_from (of_cond s (cond_of env e)) (list_all (of_cond s) (map (cond_of env) es))
         (passes.conds s e (fine-condition env s e clean.0 lawful.0)) (conds-pass s es clean.1 lawful.1)
 
     terms-pass : (s : Site) (w : Word) (es : List Expr) → AreClean (terms s w es) → list_all is_expr es ≡ true
@@ -185,7 +180,7 @@ module _ (of_cond : Site → Cond → Bool) (of_term : Site → Term → Bool) w
     terms-pass s w (e ∷ es) h k =
         let clean = and_parts (is_clean env (term_for s w e)) (list_all (is_clean env) (terms s w es)) h in
         let lawful = and_parts (is_expr e) (list_all is_expr es) k in
-        both-pass (of_term s (term_of env e)) (list_all (of_term s) (map (term_of env) es))
+        and_from (of_term s (term_of env e)) (list_all (of_term s) (map (term_of env) es))
         (passes.terms s e (fine-term env s w e clean.0 lawful.0)) (terms-pass s w es clean.1 lawful.1)
 
     exprs-of : (es : List Expr) → are_entries es ≡ true → list_all is_expr es ≡ true
@@ -200,9 +195,9 @@ module _ (of_cond : Site → Cond → Bool) (of_term : Site → Term → Bool) w
         let (lawful, others) = and_parts (is_row row) (list_all is_row rows) k in
         let (first, second) = and_parts (is_expr row.head) (are_entries row.entries) lawful in
         let (heads, more) = normal-rows s w rows rest others in (
-          both-pass (of_cond s (head_of env row)) (list_all (of_cond s) (map (head_of env) rows))
+          and_from (of_cond s (head_of env row)) (list_all (of_cond s) (map (head_of env) rows))
               (passes.conds s row.head (fine-condition env s row.head head first)) heads,
-          both-pass (list_all (of_term s) (row_terms env row)) (list_all (list_all (of_term s)) (map (row_terms env) rows))
+          and_from (list_all (of_term s) (row_terms env row)) (list_all (list_all (of_term s)) (map (row_terms env) rows))
               (terms-pass s w row.entries entries (exprs-of row.entries second)) more,
         )
 
@@ -216,9 +211,9 @@ module _ (of_cond : Site → Cond → Bool) (of_term : Site → Term → Bool) w
         let (lawful, others) = and_parts (is_row row) (list_all is_row rows) k in
         let (first, second) = and_parts (is_expr row.head) (are_entries row.entries) lawful in
         let (heads, more) = inverted-rows s w rows rest others in (
-          both-pass (of_cond s (head_of env row)) (list_all (of_cond s) (map (head_of env) rows))
+          and_from (of_cond s (head_of env row)) (list_all (of_cond s) (map (head_of env) rows))
               (passes.conds s row.head (fine-condition env s row.head head first)) heads,
-          both-pass (list_all (of_cond s) (row_conds env row)) (list_all (list_all (of_cond s)) (map (row_conds env) rows))
+          and_from (list_all (of_cond s) (row_conds env row)) (list_all (list_all (of_cond s)) (map (row_conds env) rows))
               (conds-pass s row.entries entries (exprs-of row.entries second)) more,
         )
 
@@ -231,7 +226,7 @@ module _ (of_cond : Site → Cond → Bool) (of_term : Site → Term → Bool) w
         (list_all (is_clean env) (terms (section_site w) row.target row.entries)) own in
         let (lawful, others) = and_parts (is_vrow row) (list_all is_vrow rows) k in
         let (first, second) = and_parts (is_word row.target) (are_entries row.entries) lawful in
-        both-pass (list_all (of_term (section_site w)) (vector_terms env row))
+        and_from (list_all (of_term (section_site w)) (vector_terms env row))
         (list_all (list_all (of_term (section_site w))) (map (vector_terms env) rows))
         (terms-pass (section_site w) row.target row.entries entries (exprs-of row.entries second)) (vector-rows w rows rest others)
 
@@ -241,7 +236,7 @@ module _ (of_cond : Site → Cond → Bool) (of_term : Site → Term → Bool) w
     facts-pass (fact_item.Shows name c ∷ facts) h k =
         let (own, rest) = parts-pass (is_clean env) (condition site.Shows c ∷ []) (flat_map fact_spots facts) h in
         let (lawful, others) = and_parts (is_fact (fact_item.Shows name c)) (list_all is_fact facts) k in
-        both-pass (of_cond site.Shows (cond_of env c)) (list_all fact_passes (map (fact_of env) facts))
+        and_from (of_cond site.Shows (cond_of env c)) (list_all fact_passes (map (fact_of env) facts))
         (passes.conds site.Shows c (fine-condition env site.Shows c (and_parts (is_clean env (condition site.Shows c)) true own).0
         (and_parts (is_word name) (is_expr c) lawful).1)) (facts-pass facts rest others)
     facts-pass (fact_item.Goal con ∷ facts) h k =
@@ -283,7 +278,7 @@ module _ (of_cond : Site → Cond → Bool) (of_term : Site → Term → Bool) w
         let (header, body) = parts-pass (is_clean env) (conditions (section_site w) columns) (flat_map (vector_row w) rows) h in
         let (entries, count, lawful) = three-hold (are_entries columns) (is_count 32 (length rows)) (list_all is_vrow rows) k in
         at-section w (vector_grid env columns rows)
-        (both-pass (list_all (of_cond (section_site w)) (map (cond_of env) columns))
+        (and_from (list_all (of_cond (section_site w)) (map (cond_of env) columns))
         (list_all (list_all (of_term (section_site w))) (map (vector_terms env) rows))
         (conds-pass (section_site w) columns header (exprs-of columns entries)) (vector-rows w rows body lawful))
     item-tables (item.Constant name sign value) h k = refl
