@@ -1,5 +1,5 @@
 -- Values in range and ages in their spans keep the sizes of their set; what a checked set is made of is small.
-use Rattle.std.proofs.Common.{◌≡◌, ◌∙◌, sym, ap, subst, refl, ℕ, zero, suc, ◌≤◌, max, ℤ, pos, negsuc, Bool, true, false, List, []}
+use Rattle.std.proofs.Common.{◌≡◌, ◌∙◌, sym, ap, subst, refl, ℕ, zero, suc, ◌≤◌, max, ℤ, pos, negsuc, Bool, true, List, []}
 use Rattle.std.proofs.Common.{◌∷◌, ◌++◌, slice_get, Option, Some, None, arith}
 use Rattle.std.specs.Prelude.{unsigned_abs}
 use Rattle.std.specs.List.{list_all}
