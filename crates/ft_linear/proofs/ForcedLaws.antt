@@ -10,7 +10,7 @@ use Rattle.ft_linear.specs.declared.node.Node.TheVariants.{And, Or}
 use Rattle.ft_base.specs.declared.three.Three.{Three}
 use Rattle.ft_base.specs.declared.three.Three.TheVariants.{No, Maybe, Yes}
 use Rattle.ft_linear.specs.meaning.Truth.{truth}
-use Rattle.ft_linear.specs.meaning.Forced.{Seen, seen, value_of, forces, and_forces, or_forces, by_each, by_only, same_bool}
+use Rattle.ft_linear.specs.meaning.Forced.{NodeView, node_view, value_of, forces, and_forces, or_forces, by_each, by_only, same_bool}
 use Rattle.ft_base.specs.Three.{three_all, three_any, three_not, can_be, is_no, is_yes}
 use Rattle.ft_linear.specs.laws.Nodes.{With, bare, Inductive, node_induction, list_any-map, map-map, truth-At, truth-Not, truth-And}
 use Rattle.ft_linear.specs.laws.Nodes.{truth-Or, value-At, value-Not, value-And, value-Or, forces-At, forces-Not, forces-And, forces-Or}
@@ -232,38 +232,38 @@ module _ (atoms : ℕ → Three) (at : ℕ → Bool) (sound : SoundAtoms atoms a
   guarded false b e = cc e
 
   module _ (parts : List (With Forced)) (atom : ℕ) (sign : Bool) where
-    abbrev sees : With Forced → Seen
-    sees e = seen atoms e.0
+    abbrev views : With Forced → NodeView
+    views e = node_view atoms e.0
 
-    same-parts : map (seen atoms) (bare parts) ≡ map sees parts
-    same-parts = map-map (seen atoms) (λ e. e.0) parts
+    same-parts : map (node_view atoms) (bare parts) ≡ map views parts
+    same-parts = map-map (node_view atoms) (λ e. e.0) parts
 
     each-part : (want : Bool) → list_all (λ (e : With Forced). same_bool want (truth at e.0)) parts ≡ true
-        → by_each (map (seen atoms) (bare parts)) want atom sign ≡ true → at atom ≡ sign
+        → by_each (map (node_view atoms) (bare parts)) want atom sign ≡ true → at atom ≡ sign
     each-part want so e =
-        let picked : list_any (λ (x : With Forced). (sees x).1 want atom sign) parts ≡ true =
-        sym (list_any-map (λ (s : Seen). s.1 want atom sign) sees parts)
-        ∙ ap (λ (ss : List Seen). list_any (λ (s : Seen). s.1 want atom sign) ss) (sym same-parts) ∙ e in
-        let (x, is, f) = each-one (λ (x : With Forced). same_bool want (truth at x.0)) (λ (x : With Forced). (sees x).1 want atom sign)
+        let picked : list_any (λ (x : With Forced). (views x).1 want atom sign) parts ≡ true =
+        sym (list_any-map (λ (s : NodeView). s.1 want atom sign) views parts)
+        ∙ ap (λ (ss : List NodeView). list_any (λ (s : NodeView). s.1 want atom sign) ss) (sym same-parts) ∙ e in
+        let (x, is, f) = each-one (λ (x : With Forced). same_bool want (truth at x.0)) (λ (x : With Forced). (views x).1 want atom sign)
         parts so picked in
         x.1 want atom sign (sym (same-bools want (truth at x.0) is)) f
 
     only-part : (want : Bool) → list_any (λ (e : With Forced). same_bool want (truth at e.0)) parts ≡ true
-        → by_only (map (seen atoms) (bare parts)) want atom sign ≡ true → at atom ≡ sign
+        → by_only (map (node_view atoms) (bare parts)) want atom sign ≡ true → at atom ≡ sign
     only-part want so e =
-        let (g, f) = guarded _ _ (ap (λ (ss : List Seen). by_only ss want atom sign) (sym same-parts) ∙ e) in
-        let one : count_by (λ (x : With Forced). can_be want (sees x).0) parts ≡ 1 =
-        sym (count-map (λ (s : Seen). can_be want s.0) sees parts) ∙ eqb-true _ 1 g in
-        let picked : list_any (λ (x : With Forced). can_be want (sees x).0 && (sees x).1 want atom sign) parts ≡ true =
-        sym (list_any-map (λ (s : Seen). can_be want s.0 && s.1 want atom sign) sees parts) ∙ f in
-        let (x, is, f) = only-one (λ (x : With Forced). can_be want (sees x).0) (λ (x : With Forced). same_bool want (truth at x.0))
-        (λ (x : With Forced). (sees x).1 want atom sign)
-        (λ x same. so-can (sees x).0 (truth at x.0) want (value_agrees atoms at x.0 sound) (sym (same-bools want (truth at x.0) same)))
+        let (g, f) = guarded _ _ (ap (λ (ss : List NodeView). by_only ss want atom sign) (sym same-parts) ∙ e) in
+        let one : count_by (λ (x : With Forced). can_be want (views x).0) parts ≡ 1 =
+        sym (count-map (λ (s : NodeView). can_be want s.0) views parts) ∙ eqb-true _ 1 g in
+        let picked : list_any (λ (x : With Forced). can_be want (views x).0 && (views x).1 want atom sign) parts ≡ true =
+        sym (list_any-map (λ (s : NodeView). can_be want s.0 && s.1 want atom sign) views parts) ∙ f in
+        let (x, is, f) = only-one (λ (x : With Forced). can_be want (views x).0) (λ (x : With Forced). same_bool want (truth at x.0))
+        (λ (x : With Forced). (views x).1 want atom sign)
+        (λ x same. so-can (views x).0 (truth at x.0) want (value_agrees atoms at x.0 sound) (sym (same-bools want (truth at x.0) same)))
         parts one so picked in
         x.1 want atom sign (sym (same-bools want (truth at x.0) is)) f
 
   all-parts : (parts : List (With Forced)) (want : Bool) (atom : ℕ) (sign : Bool) → truth at (And (bare parts)) ≡ want
-      → and_forces (map (seen atoms) (bare parts)) want atom sign ≡ true → at atom ≡ sign
+      → and_forces (map (node_view atoms) (bare parts)) want atom sign ≡ true → at atom ≡ sign
   all-parts parts true atom sign is e =
       each-part parts atom sign true (sym (list_all-map (truth at) (λ (x : With Forced). x.0) parts) ∙ sym (truth-And at (bare parts)) ∙ is)
       e
@@ -272,7 +272,7 @@ module _ (atoms : ℕ → Three) (at : ℕ → Bool) (sound : SoundAtoms atoms a
       (sym (list_all-map (truth at) (λ (x : With Forced). x.0) parts) ∙ sym (truth-And at (bare parts)) ∙ is)) e
 
   any-parts : (parts : List (With Forced)) (want : Bool) (atom : ℕ) (sign : Bool) → truth at (Or (bare parts)) ≡ want
-      → or_forces (map (seen atoms) (bare parts)) want atom sign ≡ true → at atom ≡ sign
+      → or_forces (map (node_view atoms) (bare parts)) want atom sign ≡ true → at atom ≡ sign
   any-parts parts true atom sign is e =
       only-part parts atom sign true (sym (list_any-map (truth at) (λ (x : With Forced). x.0) parts) ∙ sym (truth-Or at (bare parts)) ∙ is)
       e

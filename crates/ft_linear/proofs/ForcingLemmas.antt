@@ -9,7 +9,7 @@ use Rattle.ft_linear.specs.declared.node.Node.TheVariants.{At, Not, And, Or}
 use Rattle.ft_base.specs.declared.three.Three.{Three}
 use Rattle.ft_linear.specs.declared.forcing.Slot.{Slot}
 use Rattle.ft_linear.specs.declared.forcing.Signs.{Signs}
-use Rattle.ft_linear.specs.meaning.Forced.{Seen, seen, value_of, forces, same_bool, and_forces, or_forces, by_only}
+use Rattle.ft_linear.specs.meaning.Forced.{NodeView, node_view, value_of, forces, same_bool, and_forces, or_forces, by_only}
 use Rattle.ft_base.specs.Three.{can_be}
 use Rattle.ft_linear.specs.judging.Slots.{slots_of, only_of, StartsWith, Adds}
 use Rattle.ft_linear.specs.laws.Nodes.{forces-At, forces-Not, forces-And, forces-Or}
@@ -105,42 +105,42 @@ pub any-more : {E : Type 0} (p : E → Bool) (f : Node → E) (parts : List Node
 any-more p f parts i part within is = sym (ap (λ (ps : List Node). list_any p (map f ps))
     (take_more parts i part within ∙ ap (λ (n : Node). take i parts ++ n ∷ []) (sym is)) ∙ any-push p f (take i parts) part)
 
-count-can : (atoms : ℕ → Three) (want : Bool) (parts : List Node) → count_by (λ (p : Seen). can_be want p.0) (map (seen atoms) parts)
-    ≡ count_by (can_be want) (map (value_of atoms) parts)
-count-can atoms want parts = count-map (λ (p : Seen). can_be want p.0) (seen atoms) parts
+count-can : (atoms : ℕ → Three) (want : Bool) (parts : List Node)
+    → count_by (λ (p : NodeView). can_be want p.0) (map (node_view atoms) parts) ≡ count_by (can_be want) (map (value_of atoms) parts)
+count-can atoms want parts = count-map (λ (p : NodeView). can_be want p.0) (node_view atoms) parts
     ∙ sym (count-map (can_be want) (value_of atoms) parts)
 
 -- where the only part that can be as wanted is asked for, it is there
 by-only : (atoms : ℕ → Three) (want : Bool) (parts : List Node) (a : ℕ) (s b : Bool) → only_of want (map (value_of atoms) parts) ≡ b
-    → cond b (list_any (λ (p : Seen). can_be want p.0 && p.1 want a s) (map (seen atoms) parts)) false
-    ≡ by_only (map (seen atoms) parts) want a s
+    → cond b (list_any (λ (p : NodeView). can_be want p.0 && p.1 want a s) (map (node_view atoms) parts)) false
+    ≡ by_only (map (node_view atoms) parts) want a s
 by-only atoms want parts a s b e =
-    ap (λ (g : Bool). cond g (list_any (λ (p : Seen). can_be want p.0 && p.1 want a s) (map (seen atoms) parts)) false)
+    ap (λ (g : Bool). cond g (list_any (λ (p : NodeView). can_be want p.0 && p.1 want a s) (map (node_view atoms) parts)) false)
     (sym (ap (λ (n : ℕ). nat_eq n 1) (count-can atoms want parts) ∙ e))
 
 pub and-marks : (atoms : ℕ → Three) (parts : List Node) (want only : Bool) (a : ℕ) (s : Bool) → only
     ≡ only_of false (map (value_of atoms) parts) → (want || only) ≡ true
-    → list_any (λ (p : Seen). (want || can_be want p.0) && p.1 want a s) (map (seen atoms) parts)
-    ≡ and_forces (map (seen atoms) parts) want a s
+    → list_any (λ (p : NodeView). (want || can_be want p.0) && p.1 want a s) (map (node_view atoms) parts)
+    ≡ and_forces (map (node_view atoms) parts) want a s
 and-marks atoms parts true only a s e h = refl
 and-marks atoms parts false only a s e h = by-only atoms false parts a s true (sym e ∙ h)
 
 pub or-marks : (atoms : ℕ → Three) (parts : List Node) (want only : Bool) (a : ℕ) (s : Bool) → only
     ≡ only_of true (map (value_of atoms) parts) → (not want || only) ≡ true
-    → list_any (λ (p : Seen). (not want || can_be want p.0) && p.1 want a s) (map (seen atoms) parts)
-    ≡ or_forces (map (seen atoms) parts) want a s
+    → list_any (λ (p : NodeView). (not want || can_be want p.0) && p.1 want a s) (map (node_view atoms) parts)
+    ≡ or_forces (map (node_view atoms) parts) want a s
 or-marks atoms parts false only a s e h = refl
 or-marks atoms parts true only a s e h = by-only atoms true parts a s true (sym e ∙ h)
 
 pub and-nothing : (atoms : ℕ → Three) (parts : List Node) (want only : Bool) (a : ℕ) (s : Bool) → only
     ≡ only_of false (map (value_of atoms) parts) → (want || only) ≡ false
-    → false ≡ and_forces (map (seen atoms) parts) want a s
+    → false ≡ and_forces (map (node_view atoms) parts) want a s
 and-nothing atoms parts true only a s e h = cc h
 and-nothing atoms parts false only a s e h = by-only atoms false parts a s false (sym e ∙ h)
 
 pub or-nothing : (atoms : ℕ → Three) (parts : List Node) (want only : Bool) (a : ℕ) (s : Bool) → only
     ≡ only_of true (map (value_of atoms) parts) → (not want || only) ≡ false
-    → false ≡ or_forces (map (seen atoms) parts) want a s
+    → false ≡ or_forces (map (node_view atoms) parts) want a s
 or-nothing atoms parts false only a s e h = cc h
 or-nothing atoms parts true only a s e h = by-only atoms true parts a s false (sym e ∙ h)
 
@@ -148,16 +148,18 @@ or-nothing atoms parts true only a s e h = by-only atoms true parts a s false (s
 pub adds-step : (atoms : ℕ → Three) (each want asked able : Bool) (v : Three) (parts : List Node) (i : ℕ) (part : Node)
     (old mid now : List Signs) → i < length parts → part ≡ slice_index_or parts i part
     → v ≡ value_of atoms part → able ≡ can_be want v → asked ≡ (each || able)
-    → Adds (λ a s. list_any (λ (p : Seen). (each || can_be want p.0) && p.1 want a s) (map (seen atoms) (take i parts))) old mid
+    → Adds (λ a s. list_any (λ (p : NodeView). (each || can_be want p.0) && p.1 want a s) (map (node_view atoms) (take i parts))) old mid
     → Adds (λ a s. asked && forces atoms part want a s) mid now
-    → Adds (λ a s. list_any (λ (p : Seen). (each || can_be want p.0) && p.1 want a s) (map (seen atoms) (take (i + 1) parts))) old now
+    → Adds (λ a s. list_any (λ (p : NodeView). (each || can_be want p.0) && p.1 want a s) (map (node_view atoms) (take (i + 1) parts)))
+    old now
 adds-step atoms each want asked able v parts i part old mid now within is ev ea ask before here =
-    adds-same _ (λ a s. list_any (λ (p : Seen). (each || can_be want p.0) && p.1 want a s) (map (seen atoms) (take (i + 1) parts))) old now
-    (λ a s. ap (λ (b : Bool). list_any (λ (p : Seen). (each || can_be want p.0) && p.1 want a s) (map (seen atoms) (take i parts))
+    adds-same _ (λ a s. list_any (λ (p : NodeView). (each || can_be want p.0) && p.1 want a s)
+    (map (node_view atoms) (take (i + 1) parts))) old now
+    (λ a s. ap (λ (b : Bool). list_any (λ (p : NodeView). (each || can_be want p.0) && p.1 want a s) (map (node_view atoms) (take i parts))
     || (b && forces atoms part want a s))
     (ask ∙ ap (λ (b : Bool). each || b) (ea ∙ ap (can_be want) ev))
-    ∙ any-more (λ (p : Seen). (each || can_be want p.0) && p.1 want a s) (seen atoms) parts i part within is)
-    (adds-then (λ a s. list_any (λ (p : Seen). (each || can_be want p.0) && p.1 want a s) (map (seen atoms) (take i parts)))
+    ∙ any-more (λ (p : NodeView). (each || can_be want p.0) && p.1 want a s) (node_view atoms) parts i part within is)
+    (adds-then (λ a s. list_any (λ (p : NodeView). (each || can_be want p.0) && p.1 want a s) (map (node_view atoms) (take i parts)))
     (λ a s. asked && forces atoms part want a s) old mid now before here)
 
 module _ (atoms : ℕ → Three) (node : Node) (want : Bool) (old now : List Signs) where
@@ -172,14 +174,14 @@ module _ (atoms : ℕ → Three) (node : Node) (want : Bool) (old now : List Sig
 
   module _ (parts : List Node) (only asked : Bool) where
     pub adds-And : node ≡ And parts → only ≡ only_of false (map (value_of atoms) parts) → asked ≡ (want || only) → asked ≡ true
-        → Adds (λ a s. list_any (λ (p : Seen). (want || can_be want p.0) && p.1 want a s) (map (seen atoms) parts)) old now
+        → Adds (λ a s. list_any (λ (p : NodeView). (want || can_be want p.0) && p.1 want a s) (map (node_view atoms) parts)) old now
         → Adds (forces atoms node want) old now
     adds-And is eo ea so h = adds-same _ (forces atoms node want) old now
         (λ a s. and-marks atoms parts want only a s eo (sym ea ∙ so) ∙ sym
         (ap (λ (n : Node). forces atoms n want a s) is ∙ forces-And atoms want a s parts)) h
 
     pub adds-Or : node ≡ Or parts → only ≡ only_of true (map (value_of atoms) parts) → asked ≡ (not want || only) → asked ≡ true
-        → Adds (λ a s. list_any (λ (p : Seen). (not want || can_be want p.0) && p.1 want a s) (map (seen atoms) parts)) old now
+        → Adds (λ a s. list_any (λ (p : NodeView). (not want || can_be want p.0) && p.1 want a s) (map (node_view atoms) parts)) old now
         → Adds (forces atoms node want) old now
     adds-Or is eo ea so h = adds-same _ (forces atoms node want) old now
         (λ a s. or-marks atoms parts want only a s eo (sym ea ∙ so) ∙ sym

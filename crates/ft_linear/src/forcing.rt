@@ -3,7 +3,7 @@ ghost use Rattle.std.specs.Prelude.{◌≡◌, ◌≤◌, ◌+◌, ℕ, Bool, tr
 ghost use Rattle.std.specs.Prelude.{option_map, ◌||◌, not, cond, slice_set, ◌-◌, Some};
 ghost use Rattle.std.specs.List.{flat_map, list_any};
 ghost use Rattle.ft_base.specs.Three.{is_no, is_yes, can_be, three_all, three_any};
-ghost use Rattle.ft_linear.specs.meaning.Forced.{forces, value_of, parts_force, same_bool, by_each, by_only, seen};
+ghost use Rattle.ft_linear.specs.meaning.Forced.{forces, value_of, parts_force, same_bool, by_each, by_only, node_view};
 ghost use Rattle.ft_linear.specs.judging.Slots.{value_at, slots_of, only_of, IsWritten, StartsWith, Adds, with_more};
 
 use crate::node::Node;
@@ -224,8 +224,8 @@ fn force_parts(
     signs: &mut [Signs],
 )
     requires { StartsWith slots.now (flat_map (slots_of (value_at values.now)) parts.now) }
-    ensures { Adds (λ a s. list_any (λ p. (each || can_be want p.0) && p.1 want a s) (map (seen (value_at values.now)) parts.now)) signs.old
-        signs.new }
+    ensures { Adds (λ a s. list_any (λ p. (each || can_be want p.0) && p.1 want a s) (map (node_view (value_at values.now)) parts.now))
+        signs.old signs.new }
 {
     let mut rest = slots;
     for part in parts {

@@ -1,10 +1,11 @@
 -- Scans back to the last that begins, and what two readings that tell the same time have in common. All is by the laws of time.
-use Rattle.std.proofs.Common.{◌≡◌, ◌∙◌, sym, ap, subst, ℕ, zero, suc, ◌+◌, ◌-◌, ◌<◌, ◌≤◌, ℤ, pos, ◌+ℤ◌, ◌≤ℤ◌, true, false, arith, ⊎_elim}
+use Rattle.std.proofs.Common.{◌≡◌, ◌∙◌, sym, ap, subst, ℕ, zero, suc, ◌<◌, ◌≤◌, ℤ, pos, ◌+ℤ◌, ◌≤ℤ◌, true, false, arith, ⊎_elim}
 use Rattle.std.proofs.Common.{true≢false}
 use Rattle.std.proofs.lemmas.Bool.{cases_Bool, cases_lt, cond-true, cond-false}
 use Rattle.ft_core.specs.declared.tables.Tables.{Tables}
+use Rattle.ft_mean.specs.laws.TimeLaws.{BeforeSame}
 use Rattle.ft_mean.specs.meaning.Reading.{Reading, init_of, begins, begun, since, scan_before, before}
-use Rattle.ft_mean.proofs.TimeLemmas.{begins_first, begun_here, begun_past, since_none, since_next, SameTime}
+use Rattle.ft_mean.proofs.TimeLemmas.{begins_first, begun_here, begun_past, since_none, since_next, SameTime, same_time}
 
 module _ (S : Tables) (ρ : Reading) where
   -- a scan that does not begin has one before it
@@ -12,8 +13,8 @@ module _ (S : Tables) (ρ : Reading) where
   later zero is = absurd (true≢false (sym (begins_first S ρ) ∙ is))
   later (suc k) is = (k, λ i. suc k)
 
-  pub begun_first : begun S ρ zero ≡ zero
-  begun_first = begun_here S ρ zero (begins_first S ρ)
+  pub begun_zero : begun S ρ zero ≡ zero
+  begun_zero = begun_here S ρ zero (begins_first S ρ)
 
   pub before_begins : (t x : ℕ) → begins S ρ t ≡ true → before S ρ t x ≡ init_of S x
   before_begins t x is = cond-true (begins S ρ t) (init_of S x) (ρ (scan_before t) x) is
@@ -32,7 +33,7 @@ module _ (S : Tables) (ρ : Reading) where
 module _ (S : Tables) (a b : Reading) where
   -- readings that tell the same time begin at the same scans
   pub begun_same : (t : ℕ) → ((j : ℕ) → j ≤ t → SameTime S a b j) → begun S a t ≡ begun S b t
-  begun_same zero same = begun_first S a ∙ sym (begun_first S b)
+  begun_same zero same = begun_zero S a ∙ sym (begun_zero S b)
   begun_same (suc t) same =
       let here = (same (suc t) (omega arith)).0 in
       ⊎_elim
@@ -62,3 +63,7 @@ module _ (S : Tables) (a b : Reading) where
       (before_later S a k.0 x (ap (begins S a) (sym k.1) ∙ is) ∙ past k.0 (omega (arith, k.1))
       ∙ sym (before_later S b k.0 x (ap (begins S b) (sym k.1) ∙ sym same.0 ∙ is))))
       (cases_Bool (begins S a t))
+
+-- no value tells time, so that is so at every scan
+pub before_alike : BeforeSame
+before_alike S a b t x past = before_same S a b t x (same_time S a b t) past

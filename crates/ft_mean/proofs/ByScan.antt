@@ -14,7 +14,7 @@ use Rattle.ft_core.specs.meaning.Kinds.{Kinds, monitored, controlled, outputs, i
 use Rattle.ft_core.specs.meaning.Reads.{Read, at_now, at_before, of_memory, of_age, cond_reads}
 use Rattle.ft_core.specs.checked.Sound.{AllRead, now_of, step_of}
 use Rattle.ft_mean.specs.meaning.Value.{View, truth}
-use Rattle.ft_mean.specs.meaning.Reading.{Reading, reading_of, init_of, begins, before}
+use Rattle.ft_mean.specs.meaning.Reading.{Reading, reading_of, begins, before}
 use Rattle.ft_mean.specs.meaning.Memory.{look}
 use Rattle.ft_mean.specs.meaning.Cells.{Follows}
 use Rattle.ft_mean.specs.meaning.Allowed.{nat_at}
@@ -22,7 +22,7 @@ use Rattle.ft_mean.specs.meaning.Fits.{Maps}
 use Rattle.ft_mean.specs.laws.Alike.{now_alike, step_alike}
 use Rattle.ft_mean.specs.laws.Laws.{GoesByScan, MapsByScan, OutputsAlone, AllowedByScan}
 use Rattle.ft_mean.proofs.Agree.{Same}
-use Rattle.ft_mean.proofs.BegunLemmas.{before_begins}
+use Rattle.ft_mean.proofs.BegunLemmas.{before_begins, before_later}
 use Rattle.ft_mean.proofs.CellLemmas.{own_reads, all_alike}
 use Rattle.ft_mean.proofs.TimeLemmas.{begins_first, begins_later}
 use Rattle.ft_mean.proofs.ImageLemmas.{none_given}
@@ -161,4 +161,7 @@ allowed_by_scan S h = (begin, step)
         let a = reading_of S monitored h in
         let b = reading_of S monitored (slice_index_or h t [] ∷ slice_index_or h (suc t) [] ∷ []) in
         let same = begins_later S a b t 0 in
-        nat_alike S a b (suc t) 1 same (λ x. refl) (λ x. ap (λ anew. cond anew (init_of S x) (a t x)) same)
+        nat_alike S a b (suc t) 1 same (λ x. refl) (λ x. ⊎_elim
+        (λ is. before_begins S a (suc t) x is ∙ sym (before_begins S b 1 x (sym same ∙ is)))
+        (λ is. before_later S a t x is ∙ sym (before_later S b 0 x (sym same ∙ is)))
+        (cases_Bool (begins S a (suc t))))

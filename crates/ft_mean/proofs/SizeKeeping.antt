@@ -1,5 +1,5 @@
 -- Values in range and ages in their spans keep the sizes of their set; what a checked set is made of is small.
-use Rattle.std.proofs.Common.{◌≡◌, ◌∙◌, sym, ap, subst, refl, ℕ, zero, suc, ◌≤◌, max, cond, ℤ, pos, negsuc, Bool, true, false, List, []}
+use Rattle.std.proofs.Common.{◌≡◌, ◌∙◌, sym, ap, subst, refl, ℕ, zero, suc, ◌≤◌, max, ℤ, pos, negsuc, Bool, true, List, []}
 use Rattle.std.proofs.Common.{◌∷◌, ◌++◌, slice_get, Option, Some, None, arith}
 use Rattle.std.specs.Prelude.{unsigned_abs}
 use Rattle.std.specs.List.{list_all}
@@ -17,9 +17,10 @@ use Rattle.ft_core.specs.meaning.Kinds.{is_of}
 use Rattle.ft_core.specs.checked.Size.{var_size, age_size, is_sized, is_sized_grid, is_sized_memory}
 use Rattle.ft_mean.specs.meaning.Memory.{kept, kept_of}
 use Rattle.ft_mean.specs.laws.Moves.{span_of}
-use Rattle.ft_mean.specs.meaning.Reading.{Reading, before, begins, init_of, scan_before}
+use Rattle.ft_mean.specs.meaning.Reading.{Reading, before, init_of}
 use Rattle.ft_mean.specs.laws.SafetyLaws.{AreValuesOf, AreAgesOf, ViewsKeepSizes, LooksKeepSizes, ListsTellValues, ClausesAreSafe}
 use Rattle.ft_mean.specs.laws.SafetyLaws.{TablesAreSafe, MemoriesAreSafe, SafeByLess}
+use Rattle.ft_mean.proofs.BegunLemmas.{before_by}
 use Rattle.ft_mean.proofs.MovesLaw.{memories_move}
 use Rattle.ft_mean.proofs.SafeLemmas.{safe_by}
 use Rattle.ft_mean.proofs.SideLemmas.{of_none}
@@ -73,14 +74,13 @@ module _ (S : Tables) where
     none = λ x e. ap (λ o. elim o as (λ z. ℤ) [ None ↦ pos 0 | Some u ↦ u.init ]) e;
   }
 
-  -- where one function has such values and the other too, so does the one that a test picks
-  either_values : (b : Bool) (f g : ℕ → ℤ) → AreValuesOf S f → AreValuesOf S g → AreValuesOf S (λ x. cond b (f x) (g x))
-  either_values true f g hf hg = hf
-  either_values false f g hf hg = hg
-
-  earlier : (t : ℕ) → scan_before t ≤ t
-  earlier zero = omega arith
-  earlier (suc t) = omega arith
+  -- so are those one scan before, where each scan up to this one has such values
+  before_values : (ρ : Reading) (t : ℕ) → ((j : ℕ) → j ≤ t → AreValuesOf S (ρ j)) → AreValuesOf S (before S ρ t)
+  before_values ρ t values = record {
+    in_range = λ x v e. before_by S ρ (IsWithin v.range) t x (begin_values.in_range x v e)
+        (λ k is. (values k (omega (arith, is))).in_range x v e);
+    none = λ x e. before_by S ρ (λ z. z ≡ pos 0) t x (begin_values.none x e) (λ k is. (values k (omega (arith, is))).none x e);
+  }
 
   kept_ages : (ρ : Reading) (t : ℕ) → AreAgesOf S (kept S ρ t)
   kept_ages ρ t = record {
@@ -91,9 +91,7 @@ module _ (S : Tables) where
 pub looks_keep : LooksKeepSizes
 looks_keep S ρ t values = record {
   now = value_below S.vars (ρ t) (values t (omega arith)).in_range (values t (omega arith)).none;
-  before = let all = either_values S (begins S ρ t) (init_of S) (ρ (scan_before t)) (begin_values S) (values (scan_before t) (earlier S t))
-      in
-      value_below S.vars (before S ρ t) all.in_range all.none;
+  before = let all = before_values S ρ t values in value_below S.vars (before S ρ t) all.in_range all.none;
   age = age_below S.memories (kept S ρ t) (kept_ages S ρ t).in_span (kept_ages S ρ t).none;
 }
 

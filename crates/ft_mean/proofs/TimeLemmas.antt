@@ -1,9 +1,10 @@
--- The milliseconds from scan to scan, and where scans begin: the only facts of time that proofs use.
+-- The milliseconds from scan to scan, and where scans begin: the only proofs that look at the definitions.
 use Rattle.std.proofs.Common.{◌≡◌, ◌∙◌, sym, ap, refl, ℕ, zero, suc, ◌-◌, ◌*◌, ◌≤◌, ℤ, pos, negsuc, ◌+ℤ◌, ◌*ℤ◌, ◌≤ℤ◌, true, false, arith}
 use Rattle.std.proofs.Common.{true≢false}
 use Rattle.std.proofs.lemmas.Int.{ints}
 use Rattle.std.proofs.Math.Nat.{mul-le-mul_left}
 use Rattle.ft_core.specs.declared.tables.Tables.{Tables}
+use Rattle.ft_mean.specs.laws.TimeLaws.{ScanBefore, ElapsedPeriod, SincePeriods}
 use Rattle.ft_mean.specs.meaning.Reading.{Reading, begins, begun, elapsed, since}
 
 -- so many periods
@@ -47,6 +48,15 @@ module _ (S : Tables) (ρ : Reading) (up : pos 0 ≤ℤ S.period) where
   pub since_falls : (t j k : ℕ) → j ≤ k → since S ρ k t ≤ℤ since S ρ j t
   since_falls t j k low = times_more (t - k) (t - j) S.period (omega (arith, low)) up
 
+pub elapsed_period : ElapsedPeriod
+elapsed_period S now = refl
+
+pub since_periods : SincePeriods
+since_periods S ρ j t = refl
+
+pub scan_before_is : ScanBefore
+scan_before_is t = refl
+
 module _ (S : Tables) (ρ : Reading) where
   -- nothing is before the first scan
   pub begins_first : begins S ρ zero ≡ true
@@ -64,6 +74,14 @@ module _ (S : Tables) (ρ : Reading) where
   -- another is as the scan before
   pub begun_past : (t : ℕ) → begins S ρ (suc t) ≡ false → begun S ρ (suc t) ≡ begun S ρ t
   begun_past t is = refl
+
+  -- no scan begins but scan 0
+  pub begins_once : (t : ℕ) → begins S ρ (suc t) ≡ false
+  begins_once t = refl
+
+  pub begun_first : (t : ℕ) → begun S ρ t ≡ zero
+  begun_first zero = begun_here zero begins_first
+  begun_first (suc t) = begun_past t (begins_once t) ∙ begun_first t
 
 -- what a scan tells of time: whether it begins, and what elapsed before it
 abbrev pub SameTime : Tables → Reading → Reading → ℕ → Type 0

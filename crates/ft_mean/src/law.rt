@@ -9,6 +9,8 @@ ghost use Rattle.ft_mean.specs.laws.SafetyLaws.{MemoriesAreSafe, SafeByLess};
 ghost use Rattle.ft_mean.specs.laws.TableLaws.{HasTable, CellsAreOfTable, CellsReadTheirs, OwnReads, CellsMayRead, SameDefined};
 ghost use Rattle.ft_mean.specs.laws.TableLaws.{SectionsAreTold, HasOneValue};
 ghost use Rattle.ft_mean.specs.laws.TimeLaws.{ElapsedUp, SinceNone, SinceNext, SinceFalls, BegunLow, BegunHere, BegunPast};
+ghost use Rattle.ft_mean.specs.laws.TimeLaws.{BeginsFirst, BeforeBegins, BeforeLater, ScanBefore, BeforeSame};
+ghost use Rattle.ft_mean.specs.laws.TimeLaws.{BeginsOnce, BegunFirst, ElapsedPeriod, SincePeriods};
 ghost use Rattle.ft_mean.specs.laws.TraceLaws.{FitsLonger, AllowedShorter, FitsShorter, InputsShorter, OutputsShorter, SameFront};
 ghost use Rattle.ft_mean.specs.laws.TraceLaws.{DiffersShorter};
 ghost use Rattle.ft_mean.specs.laws.Whole.{RunsAreWhole, WholesSplit, SplitsAreRuns, SplitsDiffer};
@@ -73,7 +75,8 @@ pub fn past_laws()
     ensures held_by_age { HeldByAge }
 {}
 
-/// Time from scan to scan, and the last scan that begins.
+/// Time from scan to scan, where scans begin, and what each variable is one scan before: all that may be used of these
+/// definitions. The last four are of sets that never begin anew and of one period.
 pub fn time_laws()
     ensures elapsed_up { ElapsedUp }
     ensures since_none { SinceNone }
@@ -82,6 +85,15 @@ pub fn time_laws()
     ensures begun_low { BegunLow }
     ensures begun_here { BegunHere }
     ensures begun_past { BegunPast }
+    ensures begins_first { BeginsFirst }
+    ensures before_begins { BeforeBegins }
+    ensures before_later { BeforeLater }
+    ensures scan_before { ScanBefore }
+    ensures before_same { BeforeSame }
+    ensures begins_once { BeginsOnce }
+    ensures begun_first { BegunFirst }
+    ensures elapsed_period { ElapsedPeriod }
+    ensures since_periods { SincePeriods }
 {}
 
 /// Each memory's truth at a scan is what its timer or band says over the truths of the memories that it reads; what it

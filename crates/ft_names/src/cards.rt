@@ -23,7 +23,7 @@ impl Model for Cards {
 
     ghost Value = { List (List ℕ × Card) };
 
-    ghost use Rattle.ft_names.specs.naming.Seen.{AreMatched, carded};
+    ghost use Rattle.ft_names.specs.naming.Cards.{AreMatched, carded};
 
     ghost view = { carded };
 

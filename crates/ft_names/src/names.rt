@@ -20,7 +20,7 @@ impl Model for Names {
 
     ghost Value = { Listing };
 
-    ghost use Rattle.ft_names.specs.naming.Seen.{IsSmall, listed};
+    ghost use Rattle.ft_names.specs.naming.Names.{IsSmall, listed};
 
     ghost view = { listed };
 

@@ -64,7 +64,7 @@ module _ (L : Laws) (S : Tables) (a : Reading) (n m : ℕ) where
       ∙ L.same_held 0 (ago S.period (n - from)) hold (truth_at truths) (λ j. truth (here (from + j)) c) (n - from) (λ j l.
       let back : j ≡ (from + j) - from = omega arith in
       ap (truth_at truths) back ∙ told (from + j) (omega arith) (omega (arith, l, low)))
-      ∙ held_moved from n low (ago S.period (n - from)) (λ j. since S a j n) (ago_moved S a from n) hold (λ j. truth (here j) c)
+      ∙ held_moved from n low (ago S.period (n - from)) (λ j. since S a j n) ((ago_moved L) S a from n) hold (λ j. truth (here j) c)
       ∙ sym (L.remember S a m n ∙ ap (λ o. remembered S a (memory_at S a) o n) there)
 
   -- the same of a band and its numbers

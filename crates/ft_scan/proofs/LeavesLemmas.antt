@@ -61,7 +61,7 @@ module _ (L : Laws) where
       → AllSame V (at_scan S a (memory_at S a) n) (memory_reads (Some memory)) → IsRunOf S.period memory run
       → WasToldSince S a (begun S a n) n memory run
       → Advances V memory run next says
-      → IsRunOf S.period memory next × WasTold S a (suc n) memory next × (says ≡ memory_at S a m n)
+      → IsRunOf S.period memory next × WasToldSince S a (begun S a n) (suc n) memory next × (says ≡ memory_at S a m n)
   advanced S a n m V (Held name s c hold) (Timer t) (Timer u) says there same is was goes =
       let hold_is = goes.0 ∙ is.0 in
       let period_is = goes.1 ∙ is.1 in
@@ -279,12 +279,16 @@ module _ (L : Laws) (S : Tables) (proper : AllProper S) (s : Side) (steps : List
     goes_right =
         let ran = told.waits m p (omega arith) at goes.memory goes.there in
         let is = same_Some ran.0 goes.run (sym ran.1 ∙ goes.ran) in
-        (advanced L) S a n m V goes.memory goes.run goes.next goes.says goes.there
+        let went = (advanced L) S a n m V goes.memory goes.run goes.next goes.says goes.there
         ((all_here L) S s steps a n p frame told (memory_reads (Some goes.memory))
         (subst (λ o. AreKnown S s steps p (memory_reads o)) goes.there can.known))
         (subst (IsRunOf S.period goes.memory) is ran.2)
         (subst (λ from. WasToldSince S a from n goes.memory goes.run) ((begun_stays L) S a n) (subst (WasTold S a n goes.memory) is ran.3))
-        goes.advances
+        goes.advances in (
+          went.0,
+          subst (λ k. WasToldSince S a (begun S a k) (suc n) goes.memory goes.next) (sym (L.scan_before n)) went.1,
+          went.2,
+        )
 
     next_run : slice_get next.runs.items m ≡ Some goes.next
     next_run = ap (λ xs. slice_get xs m) goes.runs ∙ set-here frame.runs.items m goes.next

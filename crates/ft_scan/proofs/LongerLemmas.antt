@@ -1,12 +1,12 @@
 -- What a list of scans tells once a scan is put at its end.
-use Rattle.std.proofs.Common.{◌≡◌, ◌∙◌, sym, ap, subst, refl, ℕ, zero, suc, ◌<◌, ℤ, List, [], ◌∷◌, ◌++◌, length, arith, ⊎_elim}
+use Rattle.std.proofs.Common.{◌∙◌, sym, ap, subst, ℤ, List, [], ◌∷◌, ◌++◌, length, arith, ⊎_elim}
 use Rattle.std.proofs.lemmas.Bool.{cases_lt}
 use Rattle.std.proofs.lemmas.List.{length_push, get_or_push, get_or_append_left}
 use Rattle.ft_base.specs.Interval.{IsWithin}
 use Rattle.ft_core.specs.declared.tables.Tables.{Tables}
 use Rattle.ft_core.specs.meaning.Kinds.{Kinds}
 use Rattle.ft_mean.specs.laws.Ends.{last-tells}
-use Rattle.ft_mean.specs.meaning.Reading.{Reading, Scans, IsListOf, before}
+use Rattle.ft_mean.specs.meaning.Reading.{Scans, IsListOf}
 use Rattle.ft_scan.specs.laws.Laws.{Laws}
 
 module _ (L : Laws) where
@@ -24,8 +24,3 @@ module _ (L : Laws) where
         (one.ranges 0 x v (omega arith) is))
         (cases_lt t (length h));
   }
-
--- readings that agree before a scan have the same scan before it
-pub before_alike : (S : Tables) (a b : Reading) (n x : ℕ) → ((j : ℕ) → j < n → a j x ≡ b j x) → before S a n x ≡ before S b n x
-before_alike S a b zero x same = refl
-before_alike S a b (suc n) x same = same n (omega arith)

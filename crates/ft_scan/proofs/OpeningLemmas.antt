@@ -24,6 +24,7 @@ use Rattle.ft_scan.specs.steps.Opening.{AllStart, IsFresh, IsStart, Starts}
 use Rattle.ft_scan.specs.steps.Plan.{IsPlan}
 use Rattle.ft_scan.specs.steps.Stands.{Stands, ArePlaces}
 use Rattle.ft_scan.specs.steps.Told.{WasTold}
+use Rattle.ft_scan.specs.laws.Laws.{Laws}
 
 -- one more memory
 pub all_start_more : (S : Tables) (n : ℕ) (runs : List Running) (run : Running) → length runs ≡ n → Starts S n run → AllStart S n runs
@@ -59,7 +60,8 @@ inits_at vars x v e =
     (slice_get-map (λ (u : Var). u.init) vars x ∙ ap (option_map (λ (u : Var). u.init)) e)
 
 -- before scan 0
-module _ (S : Tables) (s : Side) (steps : List Step) (given side_variables : List ℕ) (frame : Frame) (start : IsStart S frame) where
+module _ (L : Laws) (S : Tables) (s : Side) (steps : List Step) (given side_variables : List ℕ) (frame : Frame)
+    (start : IsStart S frame) where
   start_frame : IsFrameOf S frame
   start_frame = record {
     now = ap length start.now ∙ length-map S.vars _;
@@ -78,7 +80,8 @@ module _ (S : Tables) (s : Side) (steps : List Step) (given side_variables : Lis
   stands_first plan given_places side_places = record {
     fits = fits_none S s;
     past = λ x v is. ap (λ xs. slice_index_or xs x (pos 0)) start.past ∙ inits_at S.vars x v is.0
-        ∙ sym (ap (λ o. elim o as (λ z. ℤ) [ None ↦ pos 0 | Some u ↦ u.init ]) is.0);
+        ∙ sym (ap (λ o. elim o as (λ z. ℤ) [ None ↦ pos 0 | Some u ↦ u.init ]) is.0)
+        ∙ sym (L.before_begins S (side_reading S s []) 0 x (L.begins_first S (side_reading S s [])));
     runs = λ m t memory e. let at = start.runs m (slice_get_within S.memories m memory e) in let both = at.2 memory e in
         (at.0, at.1, both.0, told_none S (side_reading S s []) S.period memory at.0 both.0 both.1);
     is_frame = start_frame;

@@ -100,16 +100,21 @@ module _ (L : Laws) where
   clauses_alike may conds V W all same =
       L.same_truths V W conds (λ r c. let at = from_one cond_reads conds r c in same r (all at.0 at.1 r at.2 at.3))
 
+  -- the environment's clauses at a scan that begins or doesn't
+  abbrev clauses_where : Tables → View → (begins : Bool) → Bool
+  clauses_where S W begins = list_all (truth W) S.always && list_all (truth W) (if begins then S.first else S.step)
+
   -- the clauses at a row are those at the one scan of a list, or at the second of two
   pub begin_is : (S : Tables) (row : List ℤ) → (list_all (truth (row_view S monitored row [] true)) S.always
       && list_all (truth (row_view S monitored row [] true)) S.first)
       ≡ nat_at S (reading_of S monitored (row ∷ [])) 0
   begin_is S row =
       let V = row_view S monitored row [] true in
-      let W = look S (reading_of S monitored (row ∷ [])) 0 in
+      let a = reading_of S monitored (row ∷ []) in
+      let W = look S a 0 in
       let always = clauses_alike (now_of S.vars monitored) S.always V W S.sound.always_reads (now_alike S V W (λ x. refl)) in
       let first = clauses_alike (now_of S.vars monitored) S.first V W S.sound.first_reads (now_alike S V W (λ x. refl)) in
-      λ i. always i && first i
+      (λ i. always i && first i) ∙ ap (clauses_where S W) (sym (L.begins_first S a))
 
   pub follow_is : (S : Tables) (earlier row : List ℤ)
       → (list_all (truth (row_view S monitored row earlier false)) S.always
@@ -117,7 +122,9 @@ module _ (L : Laws) where
       ≡ nat_at S (reading_of S monitored (earlier ∷ row ∷ [])) 1
   follow_is S earlier row =
       let V = row_view S monitored row earlier false in
-      let W = look S (reading_of S monitored (earlier ∷ row ∷ [])) 1 in
+      let a = reading_of S monitored (earlier ∷ row ∷ []) in
+      let W = look S a 1 in
       let always = clauses_alike (now_of S.vars monitored) S.always V W S.sound.always_reads (now_alike S V W (λ x. refl)) in
-      let next = clauses_alike (step_of S.vars monitored) S.step V W S.sound.step_reads (step_alike S V W (λ x. refl) (λ x. refl)) in
-      λ i. always i && next i
+      let past : (x : ℕ) → V.before x ≡ W.before x = λ x. sym (L.before_later S a 0 x (L.begins_once S a 0)) in
+      let next = clauses_alike (step_of S.vars monitored) S.step V W S.sound.step_reads (step_alike S V W (λ x. refl) past) in
+      (λ i. always i && next i) ∙ ap (clauses_where S W) (sym (L.begins_once S a 0))

@@ -1,14 +1,13 @@
 -- Scans counted from the last that begins: what a timer and a band say of them, and where a running memory would be reset.
-use Rattle.std.proofs.Common.{◌≡◌, ◌∙◌, sym, ap, refl, ℕ, zero, suc, ◌+◌, ◌-◌, ◌≤◌, ℤ, pos, ◌*ℤ◌, Bool, false, ◌&&◌, ◌||◌, List, [], ◌∷◌}
+use Rattle.std.proofs.Common.{◌≡◌, ◌∙◌, sym, ap, refl, ℕ, zero, suc, ◌+◌, ◌-◌, ◌≤◌, ℤ, pos, ◌*ℤ◌, Bool, ◌&&◌, ◌||◌, List, [], ◌∷◌}
 use Rattle.std.proofs.Common.{map, arith}
 use Rattle.std.specs.Prelude.{int_le}
 use Rattle.std.specs.List.{list_any, list_all, range_with_len}
-use Rattle.std.proofs.lemmas.Bool.{cond-false}
 use Rattle.std.proofs.lemmas.List.Folds.{list_all-map}
 use Rattle.ft_core.specs.declared.tables.Tables.{Tables}
 use Rattle.ft_mean.specs.meaning.Past.{scans, held, hyst}
 use Rattle.ft_mean.specs.laws.PastLaws.{next_bit}
-use Rattle.ft_mean.specs.meaning.Reading.{Reading, begins, begun, since, scan_before, before, init_of}
+use Rattle.ft_mean.specs.meaning.Reading.{Reading, begun, since, scan_before}
 use Rattle.ft_memo.specs.Timer.{ago}
 use Rattle.ft_scan.specs.laws.Laws.{Laws}
 
@@ -38,20 +37,13 @@ held_moved from n low counted past same hold c =
     ∙ sym (any_mapped (λ j. int_le hold (past j) && list_all c (scans j n)) (λ i. from + i) (scans 0 (n - from)))
     ∙ ap (list_any (λ j. int_le hold (past j) && list_all c (scans j n))) (sym (scans_moved from 0 n low) ∙ ap (λ k. scans k n) at)
 
--- the milliseconds from a scan are those counted from `from`
-pub ago_moved : (S : Tables) (a : Reading) (from n j : ℕ) → ago S.period (n - from) j ≡ since S a (from + j) n
-ago_moved S a from n j = let back : (n - from) - j ≡ n - (from + j) = omega arith in ap (λ k. pos k *ℤ S.period) back
-
--- a scan after another doesn't begin: neither a running memory nor the values before are ever reset, and here they would be
-next_follows : (S : Tables) (a : Reading) (k : ℕ) → begins S a (suc k) ≡ false
-next_follows S a k = refl
-
--- so one scan before it is the scan before
-pub before_next : (S : Tables) (a : Reading) (k x : ℕ) → before S a (suc k) x ≡ a k x
-before_next S a k x = cond-false (begins S a (suc k)) (init_of S x) (a k x) (next_follows S a k)
-
 module _ (L : Laws) where
-  -- so does a band
+  -- the milliseconds from a scan are those counted from `from`
+  pub ago_moved : (S : Tables) (a : Reading) (from n j : ℕ) → ago S.period (n - from) j ≡ since S a (from + j) n
+  ago_moved S a from n j = let back : (n - from) - j ≡ n - (from + j) = omega arith in
+      ap (λ k. pos k *ℤ S.period) back ∙ sym (L.since_periods S a (from + j) n)
+
+  -- a band says of the scans from `from` on what it says of them counted from 0
   hyst_on : (from t : ℕ) (lo hi : ℤ) (start : Bool) (e : ℕ → ℤ) → hyst 0 lo hi start (λ j. e (from + j)) t
       ≡ hyst from lo hi start e (from + t)
   hyst_on from zero lo hi start e =
@@ -72,12 +64,10 @@ module _ (L : Laws) where
       let whole : from + (n - from) ≡ n = omega (arith, low) in
       hyst_on from (n - from) lo hi start e ∙ ap (λ k. hyst from lo hi start e k) whole
 
-  -- and the last scan that begins is that of the scan before
+  -- neither a running memory nor the values before are ever reset: the last scan that begins is that of the scan before
   pub begun_stays : (S : Tables) (a : Reading) (n : ℕ) → begun S a (scan_before n) ≡ begun S a n
-  begun_stays S a zero = refl
-  begun_stays S a (suc k) = sym (L.begun_past S a k (next_follows S a k))
+  begun_stays S a n = L.begun_first S a (scan_before n) ∙ sym (L.begun_first S a n)
 
   -- and the same for every reading
   pub begun_alike : (S : Tables) (a b : Reading) (n : ℕ) → begun S a n ≡ begun S b n
-  begun_alike S a b zero = let l = L.begun_low S a zero in let m = L.begun_low S b zero in omega (arith, l, m)
-  begun_alike S a b (suc k) = L.begun_past S a k (next_follows S a k) ∙ begun_alike S a b k ∙ sym (L.begun_past S b k (next_follows S b k))
+  begun_alike S a b n = L.begun_first S a n ∙ sym (L.begun_first S b n)

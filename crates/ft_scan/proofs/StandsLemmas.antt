@@ -24,9 +24,8 @@ use Rattle.ft_scan.specs.steps.Stands.{Kept, Stands, rows_at}
 use Rattle.ft_scan.specs.steps.Told.{IsScan, IsTold, IsRight, RunsFor}
 use Rattle.ft_scan.proofs.ListedLemmas.{listed, listed_at, of_var}
 use Rattle.ft_mean.specs.laws.Ends.{last-tells}
-use Rattle.ft_scan.proofs.LongerLemmas.{list_longer, before_alike}
+use Rattle.ft_scan.proofs.LongerLemmas.{list_longer}
 use Rattle.ft_scan.proofs.RunLemmas.{runs_alike}
-use Rattle.ft_scan.proofs.SinceLemmas.{before_next}
 use Rattle.ft_scan.specs.laws.Laws.{Laws}
 
 -- where the values are those at some places of a row, the row has them there
@@ -129,7 +128,7 @@ module _ (L : Laws) (S : Tables) (proper : AllProper S) (sc : Kept) (earlier row
         now_in_range = now_range;
         past_in_range = stands.is_frame.past_in_range;
       };
-      past = λ x v is. stands.past x v is ∙ before_alike S (side_reading S sc.side rows) a n x (λ j l. same_past j x l);
+      past = λ x v is. stands.past x v is ∙ L.before_same S (side_reading S sc.side rows) a n x (λ j l. same_past j x l);
       given = λ x v is. given_value x v is ∙ sym (last-tells S (given_kinds sc.side) earlier given n x (sym stands.fits.lengths))
           ∙ sym (fits.same_given n x v (omega (arith, long)) is);
       found = λ q one l e. absurd (omega (arith, l));
@@ -232,7 +231,7 @@ module _ (L : Laws) (S : Tables) (proper : AllProper S) (sc : Kept) (earlier row
           }) (earlier ++ given ∷ []) (rows ++ z ∷ [])) same_row
           (record {
             fits = fits;
-            past = λ x v of. known x v of ∙ sym (before_next S a n x) ∙ ap (λ k. before S a k x) more;
+            past = λ x v of. known x v of ∙ sym (L.before_later S a n x (L.begins_once S a n)) ∙ ap (λ k. before S a k x) more;
             runs = λ m of. subst (λ k. RunsFor S a k m frame) more (told_run m of);
             is_frame = record {
               now = told.is_frame.past;

@@ -65,6 +65,7 @@ impl<'t> Scanner<'t> {
         ensures given { IfOk result (λ scanner. scanner.given ≡ []) }
         ensures rows { IfOk result (λ scanner. scanner.rows ≡ []) }
     {
+        laws();
         let order = scan_order(alloc, tables)?;
         Ok(Scanner {
             tables,

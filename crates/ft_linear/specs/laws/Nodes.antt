@@ -10,7 +10,7 @@ use Rattle.ft_linear.specs.meaning.Truth.{truth, layer_truth, itself}
 use Rattle.ft_base.specs.declared.three.Three.{Three}
 use Rattle.ft_linear.specs.meaning.Formula.{atoms_below, layer_below}
 use Rattle.ft_linear.specs.meaning.Marks.{size_of, layer_size}
-use Rattle.ft_linear.specs.meaning.Forced.{Seen, seen, layer_seen, value_of, forces, same_bool, and_forces, or_forces}
+use Rattle.ft_linear.specs.meaning.Forced.{NodeView, node_view, layer_view, value_of, forces, same_bool, and_forces, or_forces}
 use Rattle.ft_base.specs.Three.{three_all, three_any, three_not}
 
 pub list_any-map : {X Y : Type 0} (p : X → Bool) (h : Y → X) (ys : List Y) → list_any p (map h ys) ≡ list_any (λ y. p (h y)) ys
@@ -85,46 +85,46 @@ module _ (count : ℕ) where
   below-Or parts = folds Bool (layer_below count) _ (layer.Or parts) (rolls-Or parts) ∙ list_all-map itself (atoms_below count) parts
 
 module _ (atoms : ℕ → Three) where
-  pub seen-At : (atom : ℕ) → seen atoms (At atom) ≡ layer_seen atoms (layer.At atom)
-  unfolding seen
-  seen-At atom = folds Seen (layer_seen atoms) _ (layer.At atom) (rolls-At atom)
+  pub view-At : (atom : ℕ) → node_view atoms (At atom) ≡ layer_view atoms (layer.At atom)
+  unfolding node_view
+  view-At atom = folds NodeView (layer_view atoms) _ (layer.At atom) (rolls-At atom)
 
-  pub seen-Not : (inner : Node) → seen atoms (Not inner) ≡ layer_seen atoms (layer.Not (seen atoms inner))
-  unfolding seen
-  seen-Not inner = folds Seen (layer_seen atoms) _ (layer.Not inner) (rolls-Not inner)
+  pub view-Not : (inner : Node) → node_view atoms (Not inner) ≡ layer_view atoms (layer.Not (node_view atoms inner))
+  unfolding node_view
+  view-Not inner = folds NodeView (layer_view atoms) _ (layer.Not inner) (rolls-Not inner)
 
-  pub seen-And : (parts : List Node) → seen atoms (And parts) ≡ layer_seen atoms (layer.And (map (seen atoms) parts))
-  unfolding seen
-  seen-And parts = folds Seen (layer_seen atoms) _ (layer.And parts) (rolls-And parts)
+  pub view-And : (parts : List Node) → node_view atoms (And parts) ≡ layer_view atoms (layer.And (map (node_view atoms) parts))
+  unfolding node_view
+  view-And parts = folds NodeView (layer_view atoms) _ (layer.And parts) (rolls-And parts)
 
-  pub seen-Or : (parts : List Node) → seen atoms (Or parts) ≡ layer_seen atoms (layer.Or (map (seen atoms) parts))
-  unfolding seen
-  seen-Or parts = folds Seen (layer_seen atoms) _ (layer.Or parts) (rolls-Or parts)
+  pub view-Or : (parts : List Node) → node_view atoms (Or parts) ≡ layer_view atoms (layer.Or (map (node_view atoms) parts))
+  unfolding node_view
+  view-Or parts = folds NodeView (layer_view atoms) _ (layer.Or parts) (rolls-Or parts)
 
   pub value-At : (atom : ℕ) → value_of atoms (At atom) ≡ atoms atom
-  value-At atom = ap (λ (s : Seen). s.0) (seen-At atom)
+  value-At atom = ap (λ (s : NodeView). s.0) (view-At atom)
 
   pub value-Not : (inner : Node) → value_of atoms (Not inner) ≡ three_not (value_of atoms inner)
-  value-Not inner = ap (λ (s : Seen). s.0) (seen-Not inner)
+  value-Not inner = ap (λ (s : NodeView). s.0) (view-Not inner)
 
   pub value-And : (parts : List Node) → value_of atoms (And parts) ≡ three_all (map (value_of atoms) parts)
-  value-And parts = ap (λ (s : Seen). s.0) (seen-And parts) ∙ ap three_all (map-map (λ (s : Seen). s.0) (seen atoms) parts)
+  value-And parts = ap (λ (s : NodeView). s.0) (view-And parts) ∙ ap three_all (map-map (λ (s : NodeView). s.0) (node_view atoms) parts)
 
   pub value-Or : (parts : List Node) → value_of atoms (Or parts) ≡ three_any (map (value_of atoms) parts)
-  value-Or parts = ap (λ (s : Seen). s.0) (seen-Or parts) ∙ ap three_any (map-map (λ (s : Seen). s.0) (seen atoms) parts)
+  value-Or parts = ap (λ (s : NodeView). s.0) (view-Or parts) ∙ ap three_any (map-map (λ (s : NodeView). s.0) (node_view atoms) parts)
 
   module _ (want : Bool) (atom : ℕ) (sign : Bool) where
     pub forces-At : (a : ℕ) → forces atoms (At a) want atom sign ≡ (nat_eq atom a && same_bool want sign)
-    forces-At a = ap (λ (s : Seen). s.1 want atom sign) (seen-At a)
+    forces-At a = ap (λ (s : NodeView). s.1 want atom sign) (view-At a)
 
     pub forces-Not : (inner : Node) → forces atoms (Not inner) want atom sign ≡ forces atoms inner (not want) atom sign
-    forces-Not inner = ap (λ (s : Seen). s.1 want atom sign) (seen-Not inner)
+    forces-Not inner = ap (λ (s : NodeView). s.1 want atom sign) (view-Not inner)
 
-    pub forces-And : (parts : List Node) → forces atoms (And parts) want atom sign ≡ and_forces (map (seen atoms) parts) want atom sign
-    forces-And parts = ap (λ (s : Seen). s.1 want atom sign) (seen-And parts)
+    pub forces-And : (parts : List Node) → forces atoms (And parts) want atom sign ≡ and_forces (map (node_view atoms) parts) want atom sign
+    forces-And parts = ap (λ (s : NodeView). s.1 want atom sign) (view-And parts)
 
-    pub forces-Or : (parts : List Node) → forces atoms (Or parts) want atom sign ≡ or_forces (map (seen atoms) parts) want atom sign
-    forces-Or parts = ap (λ (s : Seen). s.1 want atom sign) (seen-Or parts)
+    pub forces-Or : (parts : List Node) → forces atoms (Or parts) want atom sign ≡ or_forces (map (node_view atoms) parts) want atom sign
+    forces-Or parts = ap (λ (s : NodeView). s.1 want atom sign) (view-Or parts)
 
 pub size-At : (atom : ℕ) → size_of (At atom) ≡ 1
 unfolding size_of

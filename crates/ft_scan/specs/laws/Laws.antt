@@ -4,7 +4,8 @@ use Rattle.ft_mean.specs.laws.LookLaws.{MemoriesRemember, SidesReadNoAge, SideLo
 use Rattle.ft_mean.specs.laws.PastLaws.{SameHeld, SameHyst, HystBegins, HystGoesOn}
 use Rattle.ft_mean.specs.laws.RowLaws.{PlacesAreInside, PlacesAreTaken, SameRows, ReadAtPlace, ReadInRange, ReadInFront, GivenOrDefined}
 use Rattle.ft_mean.specs.laws.TableLaws.{HasTable, CellsAreOfTable, OwnReads, SameDefined, HasOneValue, SectionsAreTold}
-use Rattle.ft_mean.specs.laws.TimeLaws.{BegunLow, BegunPast}
+use Rattle.ft_mean.specs.laws.TimeLaws.{BegunLow, BeginsFirst, BeforeBegins, BeforeLater, ScanBefore, BeforeSame}
+use Rattle.ft_mean.specs.laws.TimeLaws.{BeginsOnce, BegunFirst, SincePeriods}
 use Rattle.ft_mean.specs.laws.TraceLaws.{FitsLonger}
 
 pub record Laws : Type 0 where
@@ -20,7 +21,14 @@ pub record Laws : Type 0 where
   pub hyst_begins : HystBegins
   pub hyst_goes_on : HystGoesOn
   pub begun_low : BegunLow
-  pub begun_past : BegunPast
+  pub begins_first : BeginsFirst
+  pub before_begins : BeforeBegins
+  pub before_later : BeforeLater
+  pub scan_before : ScanBefore
+  pub before_same : BeforeSame
+  pub begins_once : BeginsOnce
+  pub begun_first : BegunFirst
+  pub since_periods : SincePeriods
   pub inside : PlacesAreInside
   pub taken : PlacesAreTaken
   pub same_rows : SameRows

@@ -16,8 +16,8 @@ invariant_of-result c =
       frame = c.in_ok-first_frame.field-0;
     })
     (rows_at given scans) (rows_at side_variables scans)) (sym c.new.ensures)
-    (stands_first S c.args.side c.in_ok-plan.field-0 given side_variables c.in_ok-first_frame.field-0 c.in_ok-first_frame.ensures
-    c.in_ok-plan.ensures
+    ((stands_first c.laws.ensures) S c.args.side c.in_ok-plan.field-0 given side_variables c.in_ok-first_frame.field-0
+    c.in_ok-first_frame.ensures c.in_ok-plan.ensures
     c.in_ok-scope_places.ensures c.in_ok-scope_places-2.ensures)
 
 pub returns-clause-given : goal.returns-clause-given
