@@ -3,7 +3,7 @@ ghost use Rattle.ft_check.specs.checking.Room.{IsRoomFor};
 
 use ft_base::NoMemory;
 use ft_diff::{Diff, DiffRoom, open_lines};
-use ft_linear::{Area, Formula, Marks};
+use ft_linear::{Area, Formula, Marks, SumRoom};
 use std::alloc::Global;
 
 /// The room in which nodes are judged, taken once for a formula and an area.
@@ -12,6 +12,7 @@ pub(crate) struct CheckRoom {
     pub(crate) marks: Marks,
     pub(crate) lines: Vec<Diff>,
     pub(crate) numbers: DiffRoom,
+    pub(crate) sums: SumRoom,
 }
 
 impl CheckRoom {
@@ -27,6 +28,7 @@ impl CheckRoom {
             marks: Marks::open(alloc, formula)?,
             lines: open_lines(alloc, formula)?,
             numbers: DiffRoom::open(alloc, unknowns, 0)?,
+            sums: SumRoom::open(alloc, area.spans.len())?,
         })
     }
 }

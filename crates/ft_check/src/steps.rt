@@ -56,7 +56,7 @@ fn sum_step(formula: &Formula, part: &Part, lines: &[Line], room: &mut CheckRoom
     ensures room { IsRoomFor formula.now (length part.now.spans) room.new }
 {
     judge(formula, part, &mut room.marks);
-    if contradict(formula, part, &room.marks, lines) {
+    if contradict(formula, part, &room.marks, lines, &mut room.sums) {
         Some(Step::Close)
     } else {
         None
@@ -78,7 +78,7 @@ fn tight_step(
     ensures room { IsRoomFor formula.now (length part.now.spans) room.new }
 {
     judge(formula, part, &mut room.marks);
-    let span = tighten(formula, part, &room.marks, unknown, lines)?;
+    let span = tighten(formula, part, &room.marks, unknown, lines, &mut room.sums)?;
     Some(Step::Tighten { unknown, span })
 }
 

@@ -12,3 +12,4 @@ pub mod SingleLaws
 pub mod MarksLemmas
 pub mod UnknownLemmas
 pub mod RuleLemmas
+pub mod TotalLemmas

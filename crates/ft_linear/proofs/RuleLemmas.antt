@@ -1,6 +1,6 @@
 -- Lines and their sums: what is read of them, which unknowns cancel, and what they say of points.
 use Rattle.std.proofs.Common.{◌≡◌, ◌≢◌, ◌∙◌, ◌⊎◌, inl, inr, sym, ap, subst, refl, ℕ, zero, suc, ◌+◌, ◌<◌, ℤ, pos, negsuc, neg_ℤ, ◌+ℤ◌, ◌*ℤ◌}
-use Rattle.std.proofs.Common.{◌≤ℤ◌, ◌<ℤ◌, Bool, true, false, ◌&&◌, ◌||◌, cond, List, [], ◌∷◌, ◌++◌, length, take, drop, Option, Some, None}
+use Rattle.std.proofs.Common.{◌≤ℤ◌, ◌<ℤ◌, Bool, true, false, ◌&&◌, ◌||◌, cond, not, List, [], ◌∷◌, ◌++◌, length, take, drop, Option, Some, None}
 use Rattle.std.proofs.Common.{slice_get, arith}
 use Rattle.std.specs.Prelude.{nat_eq, int_lt, int_le, nat_lt, slice_index_or, is_some, IfSome}
 use Rattle.std.specs.Ordering.{int_eq}
@@ -15,13 +15,14 @@ use Rattle.ft_base.specs.Interval.{IsWithin}
 use Rattle.ft_base.specs.Division.{floor_of}
 use Rattle.ft_linear.specs.declared.lines.Line.{Line}
 use Rattle.ft_linear.specs.declared.lines.Line.TheVariants.{Atom, Upper, Lower}
-use Rattle.ft_linear.specs.meaning.Form.{Factor, LinView, AreRising, InArea, sum_at, form_at, span_at, scaled}
+use Rattle.ft_linear.specs.meaning.Form.{Factor, LinView, AreRising, InArea, sum_at, form_at, span_at, scaled, values_at}
 use Rattle.ft_linear.specs.meaning.Formula.{FormulaView, form_truth}
 use Rattle.ft_linear.specs.meaning.Part.{PartView, forced}
 use Rattle.ft_linear.specs.meaning.Rules.{Contradicts, HoldsForced, Tightens, is_line, is_multiplier, line_form, literal_form, upper_form}
 use Rattle.ft_linear.specs.meaning.Rules.{lower_form, times_of, factor_of, factors_in, constant_in, total_factor, total_constant, narrowed}
 use Rattle.ft_linear.specs.meaning.Rules.{up_to, down_to}
 use Rattle.ft_linear.specs.summing.Cancelling.{is_kept, is_cancelled, are_cancelled}
+use Rattle.ft_linear.specs.summing.Totals.{AreTotals, are_free}
 use Rattle.ft_linear.proofs.Whole.{times-up, mul-add, neg-mul, mul-neg, under-floor}
 use Rattle.ft_linear.proofs.UnknownLemmas.{cancels, alone, sum-append, sum-scaled, times-none, equal-to-itself, not-equal, factor_of-append}
 use Rattle.ft_linear.proofs.UnknownLemmas.{factor_of-scaled, factor_of-negated, sum-negated}
@@ -141,7 +142,14 @@ module _ (f : FormulaView) (p : PartView) where
     of-lines h (l ∷ ls) = ap (λ b. b && list_all (λ l. list_all (λ (g : Factor). q g.0) (factors_in (line_form f p l))) ls)
         (of-factors h (factors_in (line_form f p l))) ∙ of-lines h ls
 
-  module _ (ls : List Line) (kept : Option ℕ) where
+  -- an unknown that is free in each line has the total 0
+  pub free-none : (u : ℕ) (ls : List Line) → are_free f p u ls ≡ true → total_factor f p u ls ≡ pos 0
+  free-none u ls e = elim (in-lines (λ v. not (nat_eq v u)) u ls e) [
+    | inl so ↦ absurd (cc (sym so ∙ ap not (equal-to-itself u)))
+    | inr none ↦ none
+  ]
+
+  module _ (ls : List Line) (kept : Option ℕ) (totals : List ℤ) (are : AreTotals f p ls totals) where
     zero-is : (z : ℤ) → z ≡ pos 0 → int_eq z (pos 0) ≡ true
     zero-is z e = ap (λ (y : ℤ). int_eq y (pos 0)) e
 
@@ -153,19 +161,19 @@ module _ (f : FormulaView) (p : PartView) where
     so-or true c h = refl
     so-or false c h = h refl
 
-    pub cancel : list_all (λ l. are_cancelled f p ls kept (factors_in (line_form f p l))) ls ≡ true → (v : ℕ) → is_kept kept v ≡ false
+    pub cancel : list_all (λ l. are_cancelled kept totals (factors_in (line_form f p l))) ls ≡ true → (v : ℕ) → is_kept kept v ≡ false
         → total_factor f p v ls ≡ pos 0
-    cancel e v other = elim (in-lines (is_cancelled f p ls kept) v ls e) [
-      | inl so ↦ is-zero (total_factor f p v ls) (or-so (is_kept kept v) (int_eq (total_factor f p v ls) (pos 0)) so other)
+    cancel e v other = elim (in-lines (is_cancelled kept totals) v ls e) [
+      | inl so ↦ sym (are v) ∙ is-zero (values_at totals v) (or-so (is_kept kept v) (int_eq (values_at totals v) (pos 0)) so other)
       | inr none ↦ none
     ]
 
-    pub cancelled : ((v : ℕ) → is_kept kept v ≡ false → total_factor f p v ls ≡ pos 0) → (v : ℕ) → is_cancelled f p ls kept v ≡ true
-    cancelled h v = so-or (is_kept kept v) (int_eq (total_factor f p v ls) (pos 0)) (λ other. zero-is (total_factor f p v ls) (h v other))
+    cancelled : ((v : ℕ) → is_kept kept v ≡ false → total_factor f p v ls ≡ pos 0) → (v : ℕ) → is_cancelled kept totals v ≡ true
+    cancelled h v = so-or (is_kept kept v) (int_eq (values_at totals v) (pos 0)) (λ other. zero-is (values_at totals v) (are v ∙ h v other))
 
-  pub lines-cancelled : (ls : List Line) (kept : Option ℕ) → ((v : ℕ) → is_kept kept v ≡ false → total_factor f p v ls ≡ pos 0) → (l : Line)
-      → are_cancelled f p ls kept (factors_in (line_form f p l)) ≡ true
-  lines-cancelled ls kept h l = of-factors (is_cancelled f p ls kept) (cancelled ls kept h) (factors_in (line_form f p l))
+    pub lines-cancelled : ((v : ℕ) → is_kept kept v ≡ false → total_factor f p v ls ≡ pos 0) → (l : Line)
+        → are_cancelled kept totals (factors_in (line_form f p l)) ≡ true
+    lines-cancelled h l = of-factors (is_cancelled kept totals) (cancelled h) (factors_in (line_form f p l))
 
   module _ (x : ℕ → ℤ) (area : InArea p.spans x) (holds : HoldsForced f p x) where
     literal-holds : (value : Bool) (o : Option LinView) → form_truth x o ≡ value
@@ -295,10 +303,45 @@ module _ (f : FormulaView) (p : PartView) (number : ℕ) (value : Bool) (times :
   same-unknowns true q = refl
   same-unknowns false q = sym (list_all-map (λ (g : Factor). q g.0) (λ (g : Factor). (g.0, neg_ℤ g.1)) l.factors)
 
-  pub literal-cancelled : (ls : List Line) (kept : Option ℕ) → are_cancelled f p ls kept l.factors
-      ≡ are_cancelled f p ls kept (factors_in (line_form f p line))
-  literal-cancelled ls kept = same-unknowns value (is_cancelled f p ls kept)
-      ∙ sym (ap (λ (o : Option LinView). are_cancelled f p ls kept (factors_in o)) form-is)
+  pub literal-unknowns : (q : ℕ → Bool) → list_all (λ (g : Factor). q g.0) l.factors
+      ≡ list_all (λ (g : Factor). q g.0) (factors_in (line_form f p line))
+  literal-unknowns q = same-unknowns value q
+      ∙ sym (ap (λ (o : Option LinView). list_all (λ (g : Factor). q g.0) (factors_in o)) form-is)
+
+  -- so many times the literal's factor, or minus so many times the atom's
+  pub signed-factor : (u : ℕ) → cond value (pos times) (neg_ℤ (pos times)) *ℤ factor_of u l.factors
+      ≡ pos times *ℤ factor_of u (factors_in (line_form f p line))
+  signed-factor u = either value (factor_of u l.factors) ∙ ap (λ (z : ℤ). pos times *ℤ z) (literal-factor u)
+    where
+      either : (b : Bool) (z : ℤ) → cond b (pos times) (neg_ℤ (pos times)) *ℤ z ≡ pos times *ℤ cond b z (neg_ℤ z)
+      either true z = refl
+      either false z = let n = neg-mul (pos times) z in let m = mul-neg (pos times) z in omega (arith, ints, n, m)
+
+-- what is read of a bound's line
+module _ (f : FormulaView) (p : PartView) (u times : ℕ) (line : Line) where
+  pub upper-unknowns : line ≡ Upper u times → is_line f p line ≡ true → (q : ℕ → Bool) → list_all (λ (g : Factor). q g.0) ((u, pos 1) ∷ [])
+      ≡ list_all (λ (g : Factor). q g.0) (factors_in (line_form f p line))
+  upper-unknowns is takes q =
+      there (slice_get p.spans u)
+      (and_parts (is_multiplier times) (is_some (line_form f p (Upper u times))) (ap (is_line f p) (sym is) ∙ takes)).1
+      ∙ ap (λ l. list_all (λ (g : Factor). q g.0) (factors_in (line_form f p l))) (sym is)
+    where
+      there : (o : Option (ℤ × ℤ)) → is_some (option_map (upper_form u) o) ≡ true
+          → (q u && true) ≡ list_all (λ (g : Factor). q g.0) (factors_in (option_map (upper_form u) o))
+      there None some = cc some
+      there (Some s) some = refl
+
+  pub lower-unknowns : line ≡ Lower u times → is_line f p line ≡ true → (q : ℕ → Bool)
+      → list_all (λ (g : Factor). q g.0) ((u, negsuc 0) ∷ []) ≡ list_all (λ (g : Factor). q g.0) (factors_in (line_form f p line))
+  lower-unknowns is takes q =
+      there (slice_get p.spans u)
+      (and_parts (is_multiplier times) (is_some (line_form f p (Lower u times))) (ap (is_line f p) (sym is) ∙ takes)).1
+      ∙ ap (λ l. list_all (λ (g : Factor). q g.0) (factors_in (line_form f p l))) (sym is)
+    where
+      there : (o : Option (ℤ × ℤ)) → is_some (option_map (lower_form u) o) ≡ true
+          → (q u && true) ≡ list_all (λ (g : Factor). q g.0) (factors_in (option_map (lower_form u) o))
+      there None some = cc some
+      there (Some s) some = refl
 
 pub IfSome_each : {X : Type 0} (r : Option X) {P : X → Type 0} → ((x : X) → r ≡ Some x → P x) → IfSome r P
 IfSome_each None h = tt

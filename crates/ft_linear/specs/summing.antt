@@ -1,3 +1,4 @@
 -- What the sum of lines is computed by.
 pub mod Cancelling
 pub mod Sizes
+pub mod Totals

@@ -13,6 +13,7 @@ mod node;
 mod part;
 mod rules;
 mod sums;
+mod totals;
 
 pub use area::Area;
 pub use formula::{Formula, evaluate};
@@ -24,3 +25,4 @@ pub use marks::Marks;
 pub use node::Node;
 pub use part::Part;
 pub use rules::{contradict, single_span, tighten};
+pub use totals::SumRoom;

@@ -122,15 +122,6 @@ pub fn factor_of(factors: &[(u32, i64)], unknown: u32) -> i64
     0
 }
 
-/// The factor of an unknown in a form that has one unknown alone, with the factor 1 or -1.
-fn unit_factor(bounded: u32, unknown: u32, unit: i64) -> i64
-    requires { unsigned_abs unit ≤ 1 }
-    ensures value { result ≡ factor_of unknown ((bounded, unit) ∷ []) }
-    ensures small { IsSmall result }
-{
-    if bounded == unknown { unit } else { 0 }
-}
-
 /// A factor of a literal's form, by that of its atom: the same where the atom is to be true, and else minus it.
 pub fn literal_factor(value: bool, factor: i64) -> i64
     requires { IsSmall factor }
@@ -138,28 +129,6 @@ pub fn literal_factor(value: bool, factor: i64) -> i64
     ensures small { IsSmall result }
 {
     if value { factor } else { -factor }
-}
-
-/// The factor of an unknown in a line.
-pub fn line_factor(formula: &Formula, part: &Part, line: &Line, unknown: u32) -> i64
-    requires { is_line formula.now part.now line.now ≡ true }
-    ensures value { result ≡ factor_of unknown (factors_in (line_form formula.now part.now line.now)) }
-    ensures small { unsigned_abs result ≤ line_most }
-{
-    match *line {
-        Line::Atom { number, value, .. } => literal_factor(
-            value,
-            factor_of(formula.atoms()[number as usize].factors(), unknown),
-        ),
-        Line::Upper {
-            unknown: bounded,
-            ..
-        } => unit_factor(bounded, unknown, 1),
-        Line::Lower {
-            unknown: bounded,
-            ..
-        } => unit_factor(bounded, unknown, -1),
-    }
 }
 
 /// The constant of a literal's form, by that of its atom: the same where the atom is to be true, and else 1 minus it.

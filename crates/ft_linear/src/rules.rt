@@ -1,68 +1,30 @@
 // Sums of forced literals and bounds: whether they contradict, and the span that they leave an unknown.
-//
-// A factor of a line is at most 4e15 either way and its constant at most 4e15 + 1. Times a multiplier of at most
-// 2^62 that is below 1.85e34, and 4,300 lines add up to less than 7.94e37 either way, which an i128 holds
-// in any order of adding. So the number of lines and each multiplier are tested before the first product.
 
-ghost use Rattle.std.specs.Prelude.{◌≡◌, ◌≤◌, ◌<◌, ◌+◌, ◌*◌, ◌||◌, ◌↔◌, ◌+ℤ◌, ◌-ℤ◌, ◌*ℤ◌, ◌<ℤ◌, neg_ℤ, ℕ, ℤ, pos, Bool, true, false};
+ghost use Rattle.std.specs.Prelude.{◌≡◌, ◌≢◌, ◌≤◌, ◌<◌, ◌+◌, ◌*◌, ◌||◌, ◌↔◌, ◌+ℤ◌, ◌-ℤ◌, ◌*ℤ◌, ◌<ℤ◌, neg_ℤ, ℕ, ℤ, pos, Bool, true, false};
 ghost use Rattle.std.specs.Prelude.{length, unsigned_abs, IsTrue, IfSome, IfNone};
 ghost use Rattle.std.specs.List.{list_all};
 ghost use Rattle.ft_base.specs.Interval.{IsWithin};
 ghost use Rattle.ft_base.specs.Division.{floor_of};
-ghost use Rattle.ft_linear.specs.meaning.Bounds.{times_most};
 ghost use Rattle.ft_linear.specs.summing.Sizes.{line_most, line_product_most, line_sum_most, product_most, sum_most};
 ghost use Rattle.ft_linear.specs.meaning.Form.{HasUnknowns, InArea, least, span_at};
+ghost use Rattle.ft_linear.specs.meaning.Formula.{IsOver};
 ghost use Rattle.ft_linear.specs.meaning.Marks.{AreFor, AreJudged};
 ghost use Rattle.ft_linear.specs.meaning.Rules.{Contradicts, HoldsForced, Tightens, are_lines, factors_in, is_line, line_form};
 ghost use Rattle.ft_linear.specs.meaning.Rules.{literal_form, narrowed, down_to, up_to, total_constant, total_factor};
 ghost use Rattle.ft_linear.specs.meaning.Halving.{single_span};
 ghost use Rattle.ft_linear.specs.summing.Cancelling.{is_kept, is_cancelled, are_cancelled};
+ghost use Rattle.ft_linear.specs.summing.Totals.{AreClear, AreTotals};
 
 use crate::formula::Formula;
 use crate::lin::Lin;
 use crate::lines::{
-    Line, are_lines, factor_of, line_constant, line_factor, literal_constant, literal_factor,
-    times_of,
+    Line, are_lines, factor_of, line_constant, literal_constant, literal_factor, times_of,
 };
 use crate::marks::Marks;
 use crate::part::Part;
 use crate::sums::{least_of, lowest, most_of};
+use crate::totals::{SumRoom, add_lines, clear_lines, plus, product, signed};
 use ft_base::Span;
-
-/// A number of a line as many times as the line is taken.
-fn product(times: u64, number: i64) -> i128
-    requires times { times ≤ times_most }
-    requires number { unsigned_abs number ≤ line_most }
-    ensures value { result ≡ pos times *ℤ number }
-    ensures small { unsigned_abs result ≤ line_product_most }
-{
-    i128::from(times) * i128::from(number)
-}
-
-/// One more product, after so many.
-fn plus(total: i128, term: i128, count: usize) -> i128
-    requires total { unsigned_abs total ≤ line_product_most * count }
-    requires term { unsigned_abs term ≤ line_product_most }
-    requires count { count < 4300 }
-    ensures sum { result ≡ total +ℤ term }
-    ensures small { unsigned_abs result ≤ line_product_most * (count + 1) }
-{
-    total + term
-}
-
-/// The factor of an unknown in the sum of the lines.
-fn total_factor(formula: &Formula, part: &Part, lines: &[Line], unknown: u32) -> i128
-    requires { are_lines formula.now part.now lines.now ≡ true }
-    ensures value { result ≡ total_factor formula.now part.now unknown lines.now }
-    ensures small { unsigned_abs result ≤ line_sum_most }
-{
-    let mut total = 0;
-    'lines: for (at, line) in lines.iter().enumerate() {
-        let factor = line_factor(formula, part, line, unknown);
-        total = plus(total, product(times_of(line), factor), at);
-    }
-    total
-}
 
 /// The constant in the sum of the lines.
 fn total_constant(formula: &Formula, part: &Part, lines: &[Line]) -> i128
@@ -73,7 +35,7 @@ fn total_constant(formula: &Formula, part: &Part, lines: &[Line]) -> i128
     let mut total = 0;
     'lines: for (at, line) in lines.iter().enumerate() {
         let constant = line_constant(formula, part, line);
-        total = plus(total, product(times_of(line), constant), at);
+        total = plus(total, product(signed(true, times_of(line)), constant), at);
     }
     total
 }
@@ -88,33 +50,21 @@ fn is_kept(kept: Option<u32>, unknown: u32) -> bool
     }
 }
 
-/// Whether an unknown cancels in the sum of the lines, or is the one that is kept.
-fn is_cancelled(
-    formula: &Formula,
-    part: &Part,
-    lines: &[Line],
-    kept: Option<u32>,
-    unknown: u32,
-) -> bool
-    requires { are_lines formula.now part.now lines.now ≡ true }
-    ensures { result ≡ is_cancelled formula.now part.now lines.now kept unknown }
+/// Whether an unknown cancels by its total, or is the one that is kept.
+fn is_cancelled(totals: &[i128], kept: Option<u32>, unknown: u32) -> bool
+    requires { unknown < length totals.now }
+    ensures { result ≡ is_cancelled kept totals.now unknown }
 {
-    is_kept(kept, unknown) || total_factor(formula, part, lines, unknown) == 0
+    is_kept(kept, unknown) || totals[unknown as usize] == 0
 }
 
 /// Whether the unknowns of these factors all cancel.
-fn are_cancelled(
-    formula: &Formula,
-    part: &Part,
-    lines: &[Line],
-    kept: Option<u32>,
-    factors: &[(u32, i64)],
-) -> bool
-    requires { are_lines formula.now part.now lines.now ≡ true }
-    ensures { result ≡ are_cancelled formula.now part.now lines.now kept factors.now }
+fn are_cancelled(totals: &[i128], kept: Option<u32>, factors: &[(u32, i64)]) -> bool
+    requires { HasUnknowns (length totals.now) factors.now }
+    ensures { result ≡ are_cancelled kept totals.now factors.now }
 {
     for factor in factors {
-        if !is_cancelled(formula, part, lines, kept, factor.0) {
+        if !is_cancelled(totals, kept, factor.0) {
             return false;
         }
     }
@@ -125,48 +75,111 @@ fn are_cancelled(
 fn line_cancelled(
     formula: &Formula,
     part: &Part,
-    lines: &[Line],
-    kept: Option<u32>,
     line: &Line,
+    kept: Option<u32>,
+    totals: &[i128],
 ) -> bool
-    requires all { are_lines formula.now part.now lines.now ≡ true }
-    requires one { is_line formula.now part.now line.now ≡ true }
-    ensures { result ≡ are_cancelled formula.now part.now lines.now kept (factors_in (line_form formula.now part.now line.now)) }
+    requires line { is_line formula.now part.now line.now ≡ true }
+    requires over { IsOver (length part.now.spans) formula.now }
+    requires room { length part.now.spans ≤ length totals.now }
+    ensures { result ≡ are_cancelled kept totals.now (factors_in (line_form formula.now part.now line.now)) }
 {
     match *line {
         Line::Atom { number, .. } => {
             let form = &formula.atoms()[number as usize];
-            are_cancelled(formula, part, lines, kept, form.factors())
+            are_cancelled(totals, kept, form.factors())
         }
-        Line::Upper { unknown, .. } => is_cancelled(formula, part, lines, kept, unknown),
-        Line::Lower { unknown, .. } => is_cancelled(formula, part, lines, kept, unknown),
+        Line::Upper { unknown, .. } => is_cancelled(totals, kept, unknown),
+        Line::Lower { unknown, .. } => is_cancelled(totals, kept, unknown),
     }
 }
 
-/// Whether each unknown of the lines cancels in their sum, but for one that may be kept.
-fn all_cancelled(formula: &Formula, part: &Part, lines: &[Line], kept: Option<u32>) -> bool
-    requires { are_lines formula.now part.now lines.now ≡ true }
+/// Whether each unknown of the lines cancels by the totals of their factors, but for one that may be kept.
+fn all_cancelled(
+    formula: &Formula,
+    part: &Part,
+    lines: &[Line],
+    kept: Option<u32>,
+    totals: &[i128],
+) -> bool
+    requires lines { are_lines formula.now part.now lines.now ≡ true }
+    requires over { IsOver (length part.now.spans) formula.now }
+    requires room { length part.now.spans ≤ length totals.now }
+    requires totals { AreTotals formula.now part.now lines.now totals.now }
     ensures { IsTrue result ↔ ((u : ℕ) → is_kept kept u ≡ false → total_factor formula.now part.now u lines.now ≡ pos 0) }
 {
     for line in lines {
-        if !line_cancelled(formula, part, lines, kept, line) {
+        if !line_cancelled(formula, part, line, kept, totals) {
             return false;
         }
     }
     true
 }
 
+/// Whether each unknown cancels in the sum of the lines.
+fn cancel(formula: &Formula, part: &Part, lines: &[Line], totals: &mut [i128]) -> bool
+    requires lines { are_lines formula.now part.now lines.now ≡ true }
+    requires over { IsOver (length part.now.spans) formula.now }
+    requires room { length part.now.spans ≤ length totals.old }
+    requires clear { AreClear totals.old }
+    ensures cancel { IsTrue result ↔ ((u : ℕ) → total_factor formula.now part.now u lines.now ≡ pos 0) }
+    ensures clear { AreClear totals.new }
+{
+    add_lines(formula, part, lines, totals);
+    let cancelled = all_cancelled(formula, part, lines, None, totals);
+    clear_lines(formula, part, lines, totals);
+    cancelled
+}
+
+/// The factor of an unknown in the sum of the lines. None exactly where another unknown doesn't cancel.
+fn factor_alone(
+    formula: &Formula,
+    part: &Part,
+    lines: &[Line],
+    unknown: u32,
+    totals: &mut [i128],
+) -> Option<i128>
+    requires lines { are_lines formula.now part.now lines.now ≡ true }
+    requires over { IsOver (length part.now.spans) formula.now }
+    requires room { length part.now.spans ≤ length totals.old }
+    requires unknown { unknown < length part.now.spans }
+    requires clear { AreClear totals.old }
+    ensures value { IfSome result (λ factor. factor ≡ total_factor formula.now part.now unknown lines.now) }
+    ensures small { IfSome result (λ factor. unsigned_abs factor ≤ line_sum_most) }
+    ensures alone { IfSome result (λ factor. (v : ℕ) → v ≢ unknown → total_factor formula.now part.now v lines.now ≡ pos 0) }
+    ensures none { IfNone result (((v : ℕ) → v ≢ unknown → total_factor formula.now part.now v lines.now ≡ pos 0) → ⊥) }
+    ensures clear { AreClear totals.new }
+{
+    add_lines(formula, part, lines, totals);
+    let cancelled = all_cancelled(formula, part, lines, Some(unknown), totals);
+    let factor = totals[unknown as usize];
+    clear_lines(formula, part, lines, totals);
+    if cancelled { Some(factor) } else { None }
+}
+
 /// Whether the lines, each times its multiplier, add up to a positive constant with no unknown. True only where no
 /// point of the part makes each forced literal true. The part is the one that was judged last. False also where
 /// there is no line or more than 4,300, a multiplier is 0 or above 2^62, a literal isn't forced, or an unknown
-/// isn't there. It takes no memory.
-pub fn contradict(formula: &Formula, part: &Part, marks: &Marks, lines: &[Line]) -> bool
+/// isn't there. It takes no memory, and time by the lines and their factors.
+pub fn contradict(
+    formula: &Formula,
+    part: &Part,
+    marks: &Marks,
+    lines: &[Line],
+    room: &mut SumRoom,
+) -> bool
     requires opened { AreFor formula.now part.now marks.now }
     requires judged { AreJudged formula.now part.now marks.now }
+    requires over { IsOver (length part.now.spans) formula.now }
+    requires room { length part.now.spans ≤ room.old }
     ensures holds { IsTrue result ↔ Contradicts formula.now part.now lines.now }
     ensures none { IsTrue result → (x : ℕ → ℤ) → InArea part.now.spans x → HoldsForced formula.now part.now x → ⊥ }
+    ensures room { room.new ≡ room.old }
 {
-    if !are_lines(formula, part, marks, lines) || !all_cancelled(formula, part, lines, None) {
+    if !are_lines(formula, part, marks, lines) {
+        return false;
+    }
+    if !cancel(formula, part, lines, &mut room.totals) {
         return false;
     }
     total_constant(formula, part, lines) > 0
@@ -232,30 +245,34 @@ fn narrowed(g: i128, c: i128, span: Span) -> Option<Span>
 /// The span that the lines leave an unknown. They have to add up, each times its multiplier, to `g*x + c <= 0` with the
 /// unknown x alone and g not 0; the span is the unknown's with its upper end by floor, or its lower end by ceiling.
 /// None exactly where they don't, where the span is empty or no smaller, and where `contradict` is false of any lines.
-/// Each point of the part that makes each forced literal true lies in it. It takes no memory.
+/// Each point of the part that makes each forced literal true lies in it. It takes no memory, and time by the lines and their factors.
 pub fn tighten(
     formula: &Formula,
     part: &Part,
     marks: &Marks,
     unknown: u32,
     lines: &[Line],
+    room: &mut SumRoom,
 ) -> Option<Span>
     requires opened { AreFor formula.now part.now marks.now }
     requires judged { AreJudged formula.now part.now marks.now }
+    requires over { IsOver (length part.now.spans) formula.now }
+    requires room { length part.now.spans ≤ room.old }
     ensures some { IfSome result (λ span. Tightens formula.now part.now unknown lines.now span) }
     ensures only { (span : ℤ × ℤ) → Tightens formula.now part.now unknown lines.now span → result ≡ Some span }
     ensures within { IfSome result (λ span. (x : ℕ → ℤ) → InArea part.now.spans x → HoldsForced formula.now part.now x
         → IsWithin span (x unknown)) }
+    ensures room { room.new ≡ room.old }
 {
     let spans = part.area().spans.as_slice();
-    if unknown as usize >= spans.len()
-        || !are_lines(formula, part, marks, lines)
-        || !all_cancelled(formula, part, lines, Some(unknown))
-    {
+    if unknown as usize >= spans.len() || !are_lines(formula, part, marks, lines) {
         return None;
     }
+    let Some(factor) = factor_alone(formula, part, lines, unknown, &mut room.totals) else {
+        return None;
+    };
     narrowed(
-        total_factor(formula, part, lines, unknown),
+        factor,
         total_constant(formula, part, lines),
         spans[unknown as usize],
     )

@@ -1,10 +1,10 @@
-ghost use Rattle.std.specs.Prelude.{◌≡◌, ◌<◌, length, IfOk};
+ghost use Rattle.std.specs.Prelude.{◌≡◌, ◌≤◌, ◌<◌, length, IfOk};
 ghost use Rattle.ft_linear.specs.meaning.Formula.{IsOver};
 ghost use Rattle.ft_linear.specs.meaning.Marks.{AreFor, AreJudged};
 
 use ft_base::{Boxed, List, NoMemory, Span, Three};
 use ft_linear::{
-    Area, Formula, Lin, Line, Marks, Node, Part, contradict, evaluate, judge, tighten,
+    Area, Formula, Lin, Line, Marks, Node, Part, SumRoom, contradict, evaluate, judge, tighten,
 };
 use ft_settle::{Raw, is_moderate, settle};
 use std::alloc::Global;
@@ -94,22 +94,32 @@ fn ends(span: Option<Span>) -> Option<(i64, i64)> {
     }
 }
 
-fn sums(formula: &Formula, part: &Part, marks: &Marks, lines: &[Line]) -> Sums
+fn sums(formula: &Formula, part: &Part, marks: &Marks, lines: &[Line], room: &mut SumRoom) -> Sums
     requires opened { AreFor formula.now part.now marks.now }
     requires judged { AreJudged formula.now part.now marks.now }
+    requires over { IsOver (length part.now.spans) formula.now }
+    requires room { length part.now.spans ≤ room.old }
 {
-    let contradicted = contradict(formula, part, marks, lines);
-    (contradicted, ends(tighten(formula, part, marks, 0, lines)))
+    let contradicted = contradict(formula, part, marks, lines, room);
+    let span = tighten(formula, part, marks, 0, lines, room);
+    (contradicted, ends(span))
 }
 
-fn judged(formula: &Formula, part: &Part, marks: &mut Marks, lines: &[Line]) -> (Judged, Sums)
+fn judged(
+    formula: &Formula,
+    part: &Part,
+    marks: &mut Marks,
+    lines: &[Line],
+    room: &mut SumRoom,
+) -> (Judged, Sums)
     requires opened { AreFor formula.now part.now marks.old }
     requires over { IsOver (length part.now.spans) formula.now }
     requires some { 0 < length formula.now.atoms }
+    requires room { length part.now.spans ≤ room.old }
 {
     let truth = judge(formula, part, marks);
     let found = (truth, marks.value(0), marks.forced(0));
-    (found, sums(formula, part, marks, lines))
+    (found, sums(formula, part, marks, lines, room))
 }
 
 fn judged_over(
@@ -120,7 +130,8 @@ fn judged_over(
 ) -> Result<(Judged, Sums), NoMemory> {
     let part = part_of(alloc, formula, area)?;
     let mut marks = marks_of(alloc, formula, &part)?;
-    Ok(judged(formula, &part, &mut marks, lines))
+    let mut room = SumRoom::open(alloc, part.area().spans.len())?;
+    Ok(judged(formula, &part, &mut marks, lines, &mut room))
 }
 
 /// What is told of a formula where x lies between two numbers, with so many times the literals of its first atom.

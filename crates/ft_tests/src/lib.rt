@@ -2,6 +2,8 @@
 #![tactic(auto)]
 
 #[cfg(test)]
+mod certificates;
+#[cfg(test)]
 mod commands;
 #[cfg(test)]
 mod containers;
@@ -19,3 +21,5 @@ mod printing;
 mod running;
 #[cfg(test)]
 mod solutions;
+#[cfg(test)]
+mod timed;

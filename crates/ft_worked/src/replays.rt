@@ -83,6 +83,7 @@ fn after_zeros(
 #[test]
 fn replays_100000_scans(rt: HostRuntime) -> Result<(), Fail> {
     for (late, scans, last, wanted) in [
+        (false, 100_000, "", None),
         (false, 99_997, "1\n1\n1\n", None),
         (true, 99_998, "1\n1\n", None),
         (true, 99_997, "1\n1\n1\n", Some(99_999)),

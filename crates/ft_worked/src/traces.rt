@@ -42,7 +42,7 @@ fn rewritten(alloc: Global, set: &Tables, bytes: &[u8]) -> Result<Text, NoMemory
 }
 
 // Traces of the level, and the first fault of each.
-const LEVEL_FAULTS: [(&str, TraceFault); 38] = [
+const LEVEL_FAULTS: [(&str, TraceFault); 41] = [
     // no record, and no scan
     ("", TraceFault::Head),
     ("\n\r\n", TraceFault::Head),
@@ -88,6 +88,10 @@ const LEVEL_FAULTS: [(&str, TraceFault); 38] = [
         "x\n999999999999999999\n",
         TraceFault::OutOfRange { scan: 0, column: 1 },
     ),
+    ("x\n0\n2\nfive\n", TraceFault::Value { scan: 2, column: 1 }),
+    // what stands before a trace in a report isn't passed over here
+    ("trace:\nx\n1\n", TraceFault::Head),
+    ("trace:\n\u{FEFF}x\n1\n", TraceFault::Head),
     // a field too many, whatever they hold
     ("x\n1,2\n", TraceFault::Width { scan: 0 }),
     ("x\n1,\n", TraceFault::Width { scan: 0 }),
@@ -222,7 +226,11 @@ fn modes_are_read_and_written(rt: HostRuntime) -> Result<(), Fail> {
 }
 
 /// The next scan of the level and the mode, and whether there was one.
-fn next(reader: &mut TraceReader<'_>, set: &Tables, values: &mut [i64]) -> Result<bool, TraceFault>
+pub(crate) fn next(
+    reader: &mut TraceReader<'_>,
+    set: &Tables,
+    values: &mut [i64],
+) -> Result<bool, TraceFault>
     requires given { (bytes : List ℕ) × (h : Scans) × HasGiven set.now bytes reader.old h }
     requires room { length values.old ≡ count_of monitored set.now.vars }
     ensures given { (bytes : List ℕ) × (h : Scans) × HasGiven set.now bytes reader.new h }

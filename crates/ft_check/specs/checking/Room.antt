@@ -10,3 +10,4 @@ pub record IsRoomFor (f : FormulaView) (unknowns : ℕ) (r : CheckRoom) : Type 0
   pub slots : r.marks.room ≡ size_of f.root
   pub lines : length r.lines.items ≡ 2 * length f.atoms
   pub numbers : unknowns ≤ length r.numbers
+  pub sums : unknowns ≤ r.sums

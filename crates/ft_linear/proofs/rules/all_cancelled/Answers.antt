@@ -14,7 +14,7 @@ returns-then-not-line_cancelled c = (
   λ all.
       let line : Line = slice_index_or c.args.lines.now c.loop-line.line-index (Atom 0 false 0) in
       sym c.if-not-line_cancelled.true ∙ c.line_cancelled.ensures ∙ lines-cancelled c.args.formula.now c.args.part.now c.args.lines.now
-      c.args.kept all line,
+      c.args.kept c.args.totals.now c.requires.totals all line,
 )
 
 pub returns : goal.returns
@@ -23,7 +23,8 @@ returns c =
     let p = c.args.part.now in
     let ls = c.args.lines.now in
     let whole = take_all c.loop-line.line-index ls (omega arith) in (
-      λ so. cancel f p ls c.args.kept (ap (list_all (λ l. are_cancelled f p ls c.args.kept (factors_in (line_form f p l)))) (sym whole)
+      λ so. cancel f p ls c.args.kept c.args.totals.now c.requires.totals
+          (ap (list_all (λ l. are_cancelled c.args.kept c.args.totals.now (factors_in (line_form f p l)))) (sym whole)
           ∙ c.loop-line.invariant),
       λ all. refl,
     )

@@ -15,8 +15,9 @@ lines-preserved c =
     let d : Line = Atom 0 false 0 in
     let l : Line = slice_index_or c.args.lines.now c.lines.at d in
     let fits_read : SFits w64 c.line_constant-constant.result = search rules in
+    let fits_times : SFits w64 c.signed.result = search rules in
     let term : c.product.result ≡ pos (times_of l) *ℤ constant_in (line_form f p l) = c.product.ensures.value
-    ∙ (λ i. pos (c.times_of.ensures i) *ℤ (to_z-of_z w64 c.line_constant-constant.result fits_read
+    ∙ (λ i. (to_z-of_z w64 c.signed.result fits_times ∙ c.signed.ensures.value ∙ (λ j. pos (c.times_of.ensures j))) i *ℤ (to_z-of_z w64 c.line_constant-constant.result fits_read
     ∙ c.line_constant-constant.ensures.value) i) in
     let fits : SFits w128 c.plus-total.result = search rules in
     let fits_term : SFits w128 c.product.result = search rules in
