@@ -20,7 +20,7 @@ use Rattle.ft_mean.specs.meaning.Reading.{IsVar}
 use Rattle.ft_claims.specs.declared.claim.Claim.{Claim}
 use Rattle.ft_claims.specs.declared.claim.Claim.TheVariants.{And}
 use Rattle.ft_claims.specs.declared.claim.Sym.TheVariants.{Num, Slot}
-use Rattle.ft_claims.specs.laws.GoodLaws.{IsThere, IsGood, IsBelow, ConditionsGood, DefinitionsGood, MovesGood}
+use Rattle.ft_claims.specs.laws.GoodLaws.{IsThere, IsBelow, ConditionsGood, CellsGood, DefinitionsGood, MovesGood}
 use Rattle.ft_claims.specs.meaning.Claims.{equal}
 use Rattle.ft_claims.specs.meaning.Formulas.{collected}
 use Rattle.ft_claims.specs.meaning.Names.{Frame, memo, sym_of, claim_of}
@@ -63,30 +63,37 @@ module _ (S : Tables) (frame : Frame) (base : ℕ) (below : IsBelow S frame base
       (at_place (λ t. is_sized_grid S.vars S.memories t.grid) S.tables S.sound.sized_tables o.place o.table o.there) in
       ap (list_all CellSized) o.cells_are ∙ still_pass (λ (c : Cell). c.target == x) CellSized (cells o.table.grid) all
 
-  pub definition_good : HasTable → CellsMayRead → (section : Section) (x : ℕ) (v : Var) → IsVar S (defined_kinds section) x v
-      → good (definition S section frame x) ≡ true
-  definition_good has_table may_read section x v is =
-      or-good base _ (every_image good (λ cell. And (cell_claim S frame cell ∷ equal (Slot (frame.this + x)) (sym_of S frame cell.term) ∷ []))
-      (cells_of S section x) (λ k cell at. entry_good k cell at))
-    where
-      entry_good : (k : ℕ) (cell : Cell) → slice_get (cells_of S section x) k ≡ Some cell
-          → good (And (cell_claim S frame cell ∷ equal (Slot (frame.this + x)) (sym_of S frame cell.term) ∷ [])) ≡ true
-      entry_good k cell at =
-          let both = and_parts (list_all (is_sized S.vars S.memories) cell.conds) (is_sized_term S.vars S.memories cell.term)
-          (at_place CellSized (cells_of S section x) (own_sized has_table section x v is) k cell at) in
-          let reads : (r : Read) → Contains (cell_reads cell) r → IsThere S r = λ r c.
-          there S r (may-ageless S section r (may_read S section x r (in_all cell_reads (cells_of S section x) k cell r at c))) in
-          let conds = joined-good base (map (claim_of S frame) cell.conds) (every_image good (claim_of S frame) cell.conds (λ j c here.
-          cond_good S frame base below.this below.prior c
-          (λ r in_it. reads r (Contains-append_left (flat_map cond_reads cell.conds) (term_reads cell.term) r
-          (in_all cond_reads cell.conds j c r here in_it)))
-          (at_place (is_sized S.vars S.memories) cell.conds both.0 j c here))) in
-          let term = term_good S frame base below.this below.prior cell.term
-          (λ r in_it. reads r (Contains-append_right (flat_map cond_reads cell.conds) (term_reads cell.term) r in_it)) both.1 in
-          let name = slice_get_within S.vars x v is.0 in
-          let low = below.this in
-          and-good base _ (two-good base _ _ conds (equal-good base (Slot (frame.this + x)) (sym_of S frame cell.term)
-          (slot-good base (frame.this + x) (omega (arith, name, low))) term))
+  module _ (has_table : HasTable) (may_read : CellsMayRead) (section : Section) (x : ℕ) (v : Var) (is : IsVar S (defined_kinds section) x v) where
+    parts_sized : (k : ℕ) (cell : Cell) → slice_get (cells_of S section x) k ≡ Some cell
+        → (list_all (is_sized S.vars S.memories) cell.conds ≡ true) × (is_sized_term S.vars S.memories cell.term ≡ true)
+    parts_sized k cell at = and_parts (list_all (is_sized S.vars S.memories) cell.conds) (is_sized_term S.vars S.memories cell.term)
+        (at_place CellSized (cells_of S section x) (own_sized has_table section x v is) k cell at)
+
+    reads : (k : ℕ) (cell : Cell) → slice_get (cells_of S section x) k ≡ Some cell → (r : Read) → Contains (cell_reads cell) r → IsThere S r
+    reads k cell at r c = there S r (may-ageless S section r (may_read S section x r (in_all cell_reads (cells_of S section x) k cell r at c)))
+
+    pub cell_good : (k : ℕ) (cell : Cell) → slice_get (cells_of S section x) k ≡ Some cell → good (cell_claim S frame cell) ≡ true
+    cell_good k cell at = joined-good base (map (claim_of S frame) cell.conds) (every_image good (claim_of S frame) cell.conds (λ j c here.
+        cond_good S frame base below.this below.prior c
+        (λ r in_it. reads k cell at r (Contains-append_left (flat_map cond_reads cell.conds) (term_reads cell.term) r
+        (in_all cond_reads cell.conds j c r here in_it)))
+        (at_place (is_sized S.vars S.memories) cell.conds (parts_sized k cell at).0 j c here)))
+
+    entry_good : (k : ℕ) (cell : Cell) → slice_get (cells_of S section x) k ≡ Some cell
+        → good (And (cell_claim S frame cell ∷ equal (Slot (frame.this + x)) (sym_of S frame cell.term) ∷ [])) ≡ true
+    entry_good k cell at =
+        let term = term_good S frame base below.this below.prior cell.term
+        (λ r in_it. reads k cell at r (Contains-append_right (flat_map cond_reads cell.conds) (term_reads cell.term) r in_it))
+        (parts_sized k cell at).1 in
+        let name = slice_get_within S.vars x v is.0 in
+        let low = below.this in
+        and-good base _ (two-good base _ _ (cell_good k cell at) (equal-good base (Slot (frame.this + x)) (sym_of S frame cell.term)
+        (slot-good base (frame.this + x) (omega (arith, name, low))) term))
+
+    pub definition_good : good (definition S section frame x) ≡ true
+    definition_good = or-good base _
+        (every_image good (λ cell. And (cell_claim S frame cell ∷ equal (Slot (frame.this + x)) (sym_of S frame cell.term) ∷ []))
+        (cells_of S section x) (λ k cell at. entry_good k cell at))
 
   started : (anew start : Bool) (m : ℕ) → m < length S.memories
       → SymGood base (cond anew (Num (cond start (pos 1) (pos 0))) (Slot (memo S frame.prior m)))
@@ -111,6 +118,9 @@ module _ (S : Tables) (frame : Frame) (base : ℕ) (below : IsBelow S frame base
 
 pub conditions_good : ConditionsGood
 conditions_good S frame base below = cond_good S frame base below.this below.prior
+
+pub cells_good : HasTable → CellsMayRead → CellsGood
+cells_good has_table may_read S frame base below section x v is = cell_good S frame base below has_table may_read section x v is
 
 pub definitions_good : HasTable → CellsMayRead → DefinitionsGood
 definitions_good has_table may_read S frame base below = definition_good S frame base below has_table may_read

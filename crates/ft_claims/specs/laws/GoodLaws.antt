@@ -7,14 +7,16 @@ use Rattle.ft_core.specs.declared.tables.Memory.{Memory}
 use Rattle.ft_core.specs.declared.tables.Section.{Section}
 use Rattle.ft_core.specs.declared.term.Cond.{Cond}
 use Rattle.ft_core.specs.checked.Size.{is_sized}
+use Rattle.ft_core.specs.meaning.Grids.{Cell}
 use Rattle.ft_core.specs.meaning.Kinds.{defined_kinds}
 use Rattle.ft_core.specs.meaning.Reads.{Read, at_now, at_before, of_memory, of_age, cond_reads}
+use Rattle.ft_mean.specs.meaning.Cells.{cells_of}
 use Rattle.ft_mean.specs.meaning.Reading.{IsVar}
 use Rattle.ft_claims.specs.declared.claim.Claim.{Claim}
 use Rattle.ft_claims.specs.declared.claim.Claim.TheVariants.{Not, And}
 use Rattle.ft_claims.specs.meaning.Formulas.{collected}
 use Rattle.ft_claims.specs.meaning.Names.{Frame, width, claim_of}
-use Rattle.ft_claims.specs.meaning.Parts.{definition, move_of}
+use Rattle.ft_claims.specs.meaning.Parts.{cell_claim, definition, move_of}
 
 -- its names are below the base, and its divisors positive
 abbrev pub IsGood : (base : ℕ) → Claim → Type 0
@@ -36,6 +38,12 @@ pub record IsBelow (S : Tables) (frame : Frame) (base : ℕ) : Type 0 where
 abbrev pub ConditionsGood : Type 0
 ConditionsGood = (S : Tables) (frame : Frame) (base : ℕ) → IsBelow S frame base → (c : Cond)
     → ((r : Read) → Contains (cond_reads c) r → IsThere S r) → IsTrue (is_sized S.vars S.memories c) → IsGood base (claim_of S frame c)
+
+-- what a cell of a section's table for a variable holds under
+abbrev pub CellsGood : Type 0
+CellsGood = (S : Tables) (frame : Frame) (base : ℕ) → IsBelow S frame base → (section : Section) (x : ℕ) (v : Var)
+    → IsVar S (defined_kinds section) x v
+    → (k : ℕ) (cell : Cell) → slice_get (cells_of S section x) k ≡ Some cell → IsGood base (cell_claim S frame cell)
 
 -- the definition of a variable that the section defines
 abbrev pub DefinitionsGood : Type 0

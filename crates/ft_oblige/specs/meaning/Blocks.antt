@@ -1,5 +1,6 @@
 -- The parts of the formulas of blocks.
-use Rattle.std.specs.Prelude.{ℕ, Bool, true, false, List, [], ◌∷◌, ◌++◌, map, filter, length, Option, Some, None, slice_get, if◌then◌else◌}
+use Rattle.std.specs.Prelude.{ℕ, ◌≡◌, Bool, true, false, List, [], ◌∷◌, ◌++◌, map, filter, length, Option, Some, None}
+use Rattle.std.specs.Prelude.{slice_get, if◌then◌else◌}
 use Rattle.std.specs.List.{flat_map, range_with_len}
 use Rattle.ft_core.specs.declared.tables.Tables.{Tables}
 use Rattle.ft_core.specs.declared.tables.Block.{Block}
@@ -15,6 +16,12 @@ use Rattle.ft_claims.specs.declared.claim.Claim.{Claim}
 use Rattle.ft_claims.specs.declared.claim.Claim.TheVariants.{Not, And}
 use Rattle.ft_claims.specs.meaning.Names.{Frame, width, claim_of}
 use Rattle.ft_claims.specs.meaning.Parts.{definition, move_of}
+use Rattle.ft_oblige.specs.meaning.Linked.{marked}
+
+-- a fact of a block, by their places
+pub record IsFactAt (S : Tables) (b f : ℕ) (block : Block) (fact : Fact) : Type 0 where
+  pub in_set : slice_get S.blocks b ≡ Some block
+  pub in_block : slice_get block.facts f ≡ Some fact
 
 -- this scan, which begins or follows the scan before
 abbrev pub now_frame : Tables → (anew : Bool) → Frame
@@ -52,7 +59,8 @@ take_claim S frame (take.Memory m) = move_of S frame m (slice_get S.memories m)
 -- the fact is false, and what the block takes and uses is true
 abbrev pub own : Tables → (anew : Bool) → Block → Fact → List Claim
 own S anew block fact =
-    Not (fact_claim S (now_frame S anew) fact) ∷ map (take_claim S (now_frame S anew)) block.takes ++ map (use_claim S (now_frame S anew)) block.uses
+    Not (fact_claim S (now_frame S anew) fact) ∷ map (take_claim S (now_frame S anew)) block.takes
+    ++ map (use_claim S (now_frame S anew)) block.uses
 
 abbrev pub invariant_of : Fact → List Cond
 invariant_of (Invariant name c) = c ∷ []
@@ -84,3 +92,7 @@ later_others S =
 
 abbrev pub others : Tables → (anew : Bool) → List Claim
 others S anew = if anew then first_others S else later_others S
+
+-- the parts of the formula of a fact, with those of the others that are marked
+abbrev pub block_parts : Tables → (anew : Bool) → Block → Fact → List Bool → List Claim
+block_parts S anew block fact marks = own S anew block fact ++ marked marks (others S anew)
