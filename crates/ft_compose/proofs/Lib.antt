@@ -1,0 +1,4 @@
+pub mod Composition
+pub mod FailureLemmas
+pub mod ScanLemmas
+pub mod StateLemmas
