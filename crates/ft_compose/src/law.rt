@@ -1,4 +1,4 @@
-ghost use Rattle.ft_compose.specs.laws.CompositionLaws.{BlocksCompose, ShownBlocksCompose};
+ghost use Rattle.ft_compose.specs.laws.CompositionLaws.{BlocksCompose, ShownBlocksCompose, ClosedBlocksCompose};
 ghost use Rattle.ft_compose.specs.laws.FailureLaws.{PointsAreStates, PointsFail, StatesMakePoints, FailsIsFalse, ToldCellsAlike};
 ghost use Rattle.ft_compose.specs.laws.Laws.{Laws};
 
@@ -35,6 +35,13 @@ pub fn blocks_compose()
 /// a fact has a point, the design implements the requirement, and every invariant holds at every scan of every allowed list.
 pub fn shown_blocks_compose()
     ensures { ShownBlocksCompose }
+{
+    laws();
+}
+
+/// The same by the numbers of obligations: where none above those of tables has a point.
+pub fn closed_blocks_compose()
+    ensures { ClosedBlocksCompose }
 {
     laws();
 }
