@@ -4,7 +4,7 @@ ghost use Rattle.ft_compose.specs.laws.Laws.{Laws};
 
 use ft_claims::{claim_laws, formula_laws, good_laws, value_laws};
 use ft_mean::{evaluation_laws, memories_move, one_image, one_trace, table_laws, whole_laws};
-use ft_oblige::part_laws;
+use ft_oblige::{number_laws, part_laws};
 
 /// What the proofs of this crate need of the definitions of the crates below.
 pub(crate) fn laws()
@@ -20,6 +20,7 @@ pub(crate) fn laws()
     good_laws();
     formula_laws();
     value_laws();
+    number_laws();
     part_laws();
 }
 

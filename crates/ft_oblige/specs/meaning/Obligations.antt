@@ -52,13 +52,12 @@ pub record IsSubject (S : Tables) (n : ℕ) (subject : Subject) : Type 0 where
   pub at : slice_get (subjects S) (n - 1) ≡ Some subject
 
 -- the formula of the n-th obligation, with the spans of its unknowns and what they stand for
-pub data IsObligation (S : Tables) : ℕ → Obliged → Type 0 where
-  of_table : {n : ℕ} (k : ℕ) (table : Table) (fault : Fault) (ms : List ℕ) → IsSubject S n (about_table k fault)
-      → slice_get S.tables k ≡ Some table
-      → AreReadMemories S (grid_reads table.grid) ms → IsObligation S n (cover_obliged S fault table.grid ms)
-  of_fact : {n : ℕ} (b f : ℕ) (block : Block) (fact : Fact) (anew : Bool) (marks : List Bool) → IsSubject S n (about_fact b f anew)
+pub data IsObligation (S : Tables) (n : ℕ) (o : Obliged) : Type 0 where
+  of_table : (k : ℕ) (table : Table) (fault : Fault) (ms : List ℕ) → IsSubject S n (about_table k fault) → slice_get S.tables k ≡ Some table
+      → AreReadMemories S (grid_reads table.grid) ms → o ≡ cover_obliged S fault table.grid ms → IsObligation S n o
+  of_fact : (b f : ℕ) (block : Block) (fact : Fact) (anew : Bool) (marks : List Bool) → IsSubject S n (about_fact b f anew)
       → IsFactAt S b f block fact
-      → AreOf S anew block fact marks → IsObligation S n (block_obliged S anew block fact marks)
+      → AreOf S anew block fact marks → o ≡ block_obliged S anew block fact marks → IsObligation S n o
 
 -- it has no point
 abbrev pub Closes : Tables → ℕ → Type 0
