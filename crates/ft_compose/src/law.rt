@@ -1,10 +1,10 @@
-ghost use Rattle.ft_compose.specs.laws.CompositionLaws.{BlocksCompose, ShownBlocksCompose};
+ghost use Rattle.ft_compose.specs.laws.CompositionLaws.{BlocksCompose, ShownBlocksCompose, ClosedBlocksCompose};
 ghost use Rattle.ft_compose.specs.laws.FailureLaws.{PointsAreStates, PointsFail, StatesMakePoints, FailsIsFalse, ToldCellsAlike};
 ghost use Rattle.ft_compose.specs.laws.Laws.{Laws};
 
 use ft_claims::{claim_laws, formula_laws, good_laws, value_laws};
 use ft_mean::{evaluation_laws, memories_move, one_image, one_trace, table_laws, whole_laws};
-use ft_oblige::part_laws;
+use ft_oblige::{number_laws, part_laws};
 
 /// What the proofs of this crate need of the definitions of the crates below.
 pub(crate) fn laws()
@@ -20,6 +20,7 @@ pub(crate) fn laws()
     good_laws();
     formula_laws();
     value_laws();
+    number_laws();
     part_laws();
 }
 
@@ -35,6 +36,13 @@ pub fn blocks_compose()
 /// a fact has a point, the design implements the requirement, and every invariant holds at every scan of every allowed list.
 pub fn shown_blocks_compose()
     ensures { ShownBlocksCompose }
+{
+    laws();
+}
+
+/// The same by the numbers of obligations: where none above those of tables has a point.
+pub fn closed_blocks_compose()
+    ensures { ClosedBlocksCompose }
 {
     laws();
 }

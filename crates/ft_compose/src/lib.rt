@@ -3,4 +3,4 @@
 
 mod law;
 
-pub use law::{blocks_compose, failure_laws, shown_blocks_compose};
+pub use law::{blocks_compose, closed_blocks_compose, failure_laws, shown_blocks_compose};

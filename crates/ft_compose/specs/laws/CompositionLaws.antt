@@ -1,5 +1,5 @@
 -- Facts that hold over any two scans by themselves hold along every allowed list.
-use Rattle.std.specs.Prelude.{ℕ, ℤ, Bool, IsTrue}
+use Rattle.std.specs.Prelude.{ℕ, ◌*◌, ◌<◌, ◌≤◌, ℤ, Bool, IsTrue, length}
 use Rattle.std.specs.List.{list_all}
 use Rattle.ft_core.specs.declared.tables.Tables.{Tables}
 use Rattle.ft_core.specs.declared.tables.Block.{Block}
@@ -8,6 +8,7 @@ use Rattle.ft_mean.specs.meaning.Proper.{AllProper}
 use Rattle.ft_claims.specs.meaning.Claims.{claim_true}
 use Rattle.ft_claims.specs.meaning.Spans.{InSpans}
 use Rattle.ft_oblige.specs.meaning.Blocks.{IsFactAt, own, others}
+use Rattle.ft_oblige.specs.meaning.Obligations.{obligation_count, Closes}
 use Rattle.ft_compose.specs.meaning.Composing.{IsBlockRank, HasGoals, Marking, NoPoints, Composed}
 
 -- no numbers in their spans make a fact false, what its block takes and uses true, and all else true that is known of the two scans
@@ -23,3 +24,8 @@ BlocksCompose = (S : Tables) → AllProper S → HasGoals S → (rank : ℕ → 
 abbrev pub ShownBlocksCompose : Type 0
 ShownBlocksCompose = (S : Tables) → AllProper S → HasGoals S → (rank : ℕ → ℕ) → IsBlockRank S rank → (marks : Marking) → NoPoints S marks
     → Composed S
+
+-- and where no obligation of a fact has one
+abbrev pub ClosedBlocksCompose : Type 0
+ClosedBlocksCompose = (S : Tables) → AllProper S → HasGoals S → (rank : ℕ → ℕ) → IsBlockRank S rank
+    → ((n : ℕ) → 3 * length S.tables < n → n ≤ obligation_count S → Closes S n) → Composed S

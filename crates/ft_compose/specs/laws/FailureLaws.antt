@@ -13,15 +13,10 @@ use Rattle.ft_claims.specs.laws.FormulaLaws.{Gives}
 use Rattle.ft_claims.specs.meaning.Names.{view}
 use Rattle.ft_claims.specs.meaning.Points.{IsPointOf}
 use Rattle.ft_claims.specs.meaning.Spans.{InSpans}
-use Rattle.ft_oblige.specs.meaning.Blocks.{IsFactAt, now_frame, own, others, block_parts}
-use Rattle.ft_oblige.specs.meaning.Linked.{AreSettled}
+use Rattle.ft_oblige.specs.meaning.Blocks.{IsFactAt, now_frame, block_parts}
+use Rattle.ft_oblige.specs.meaning.Obligations.{AreOf, block_obliged}
 use Rattle.ft_oblige.specs.meaning.States.{slot_spans, fact_true}
-use Rattle.ft_compose.specs.meaning.Composing.{block_obliged}
 use Rattle.ft_compose.specs.meaning.Failing.{FailsAt, IsTold}
-
--- marks of the other parts that belong to the formula of a fact
-abbrev pub AreOf : Tables → (anew : Bool) → Block → Fact → List Bool → Type 0
-AreOf S anew block fact marks = AreSettled (length (slot_spans S)) (own S anew block fact) (others S anew) marks
 
 -- these numbers are a state with the values of a point of the formula of a fact
 abbrev pub HasState : Tables → (anew : Bool) → Block → Fact → List Bool → List ℤ → (ℕ → ℤ) → Type 0

@@ -7,6 +7,7 @@ use Rattle.ft_claims.specs.laws.ClaimLaws.{ConditionsSay, CellsSay, DefinitionsS
 use Rattle.ft_claims.specs.laws.FormulaLaws.{PointsTell, NumbersMakePoints, TrueAlike}
 use Rattle.ft_claims.specs.laws.GoodLaws.{CellsGood}
 use Rattle.ft_claims.specs.laws.ValueLaws.{NumbersAreMade, PointsAreOfNumbers}
+use Rattle.ft_oblige.specs.laws.NumberLaws.{FactsHaveNumbers}
 use Rattle.ft_oblige.specs.laws.PartLaws.{PartsAreGood, SlotsAreNames, SlotsHaveSome, SlotsAreSpans}
 
 pub record Laws : Type 0 where
@@ -32,3 +33,4 @@ pub record Laws : Type 0 where
   pub slots_are_names : SlotsAreNames
   pub slots_have_some : SlotsHaveSome
   pub slots_are_spans : SlotsAreSpans
+  pub facts_have_numbers : FactsHaveNumbers

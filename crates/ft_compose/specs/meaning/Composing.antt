@@ -15,10 +15,9 @@ use Rattle.ft_mean.specs.meaning.Memory.{look}
 use Rattle.ft_mean.specs.meaning.Reading.{Scans, IsVar}
 use Rattle.ft_mean.specs.meaning.Refines.{Refines}
 use Rattle.ft_mean.specs.meaning.Value.{truth}
-use Rattle.ft_claims.specs.meaning.Areas.{Obliged, finished}
 use Rattle.ft_claims.specs.meaning.Points.{IsPointOf}
-use Rattle.ft_oblige.specs.meaning.Blocks.{IsFactAt, block_parts}
-use Rattle.ft_oblige.specs.meaning.States.{slot_spans}
+use Rattle.ft_oblige.specs.meaning.Blocks.{IsFactAt}
+use Rattle.ft_oblige.specs.meaning.Obligations.{block_obliged}
 
 -- each block uses facts of blocks of a lower rank alone
 abbrev pub IsBlockRank : Tables → (ℕ → ℕ) → Type 0
@@ -32,10 +31,6 @@ HasGoals S = (x : ℕ) (v : Var) → IsVar S controlled x v → (b f : ℕ) × (
 -- which of the other parts are marked in the formula of a fact
 abbrev pub Marking : Type 0
 Marking = (anew : Bool) → Block → Fact → List Bool
-
--- the formula of a fact, with those of the other parts that are marked
-abbrev pub block_obliged : Tables → (anew : Bool) → Block → Fact → List Bool → Obliged
-block_obliged S anew block fact marks = finished (slot_spans S) (block_parts S anew block fact marks)
 
 -- no formula of a fact has a point, whether its scan begins or follows another
 abbrev pub NoPoints : Tables → Marking → Type 0

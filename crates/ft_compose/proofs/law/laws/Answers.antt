@@ -24,4 +24,5 @@ returns c = record {
   slots_are_names = c.part_laws.ensures.names;
   slots_have_some = c.part_laws.ensures.some;
   slots_are_spans = c.part_laws.ensures.spans;
+  facts_have_numbers = c.number_laws.ensures.facts;
 }
