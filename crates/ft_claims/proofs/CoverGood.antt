@@ -22,6 +22,7 @@ use Rattle.ft_claims.specs.declared.claim.Claim.{Claim}
 use Rattle.ft_claims.specs.declared.claim.Claim.TheVariants.{And}
 use Rattle.ft_claims.specs.declared.claim.Sym.TheVariants.{Num, Slot}
 use Rattle.ft_claims.specs.laws.FormulaLaws.{AreGood}
+use Rattle.ft_claims.specs.laws.GoodLaws.{IsThere}
 use Rattle.ft_claims.specs.laws.Laws.{Laws}
 use Rattle.ft_claims.specs.meaning.Names.{Frame, width, memo, sym_of, claim_of}
 use Rattle.ft_claims.specs.meaning.Parts.{cell_claim, link_of}
@@ -33,7 +34,7 @@ use Rattle.ft_claims.specs.meaning.Shown.{AreReadMemories}
 use Rattle.ft_claims.specs.meaning.Spans.{cover_spans}
 use Rattle.ft_claims.proofs.CellTests.{CellOk, sized_cells}
 use Rattle.ft_claims.proofs.CoverSpans.{cover_long}
-use Rattle.ft_claims.proofs.GoodLemmas.{IsThere, memo-good, equal-good, num-good, not-good, and-good, or-good, lt-good, le-good, two-good}
+use Rattle.ft_claims.proofs.GoodLemmas.{memo-good, equal-good, num-good, not-good, and-good, or-good, lt-good, le-good, two-good}
 use Rattle.ft_claims.proofs.GoodLemmas.{joined-good, term_good, cond_good}
 use Rattle.ft_claims.proofs.Lists.{at_place, every_image, both_lists, in_all, zip-at}
 use Rattle.ft_claims.proofs.ReadsThere.{IsAgeless, table_ageless, memory_ageless}

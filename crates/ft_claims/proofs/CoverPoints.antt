@@ -20,6 +20,7 @@ use Rattle.ft_claims.specs.declared.claim.Claim.{Claim}
 use Rattle.ft_claims.specs.laws.FormulaLaws.{Gives}
 use Rattle.ft_claims.specs.laws.Laws.{Laws}
 use Rattle.ft_claims.specs.laws.PointLaws.{cover_obliged, HasValues, PointsAreLocal, PointsShow, ShownHasPoint, ProperHasNoPoint}
+use Rattle.ft_claims.specs.laws.ValueLaws.{PointsAreOfNumbers}
 use Rattle.ft_claims.specs.meaning.Areas.{Spans, quotient_span, with_spans, is_one_of, is_used, used, place_in, finished}
 use Rattle.ft_claims.specs.meaning.Claims.{claim_true}
 use Rattle.ft_claims.specs.meaning.Coverage.{Fault, cover_frame, cover_parts, fault_node, links}
@@ -70,6 +71,16 @@ module _ (spans : Spans) (parts : List Claim) (p : List ℤ) where
       subst (IsWithin s) (sym (cond-false (is_one_of us u) (values_at p (place_in us u)) (span_at spans u).0 none ∙ low))
       (let up = some u s is in (omega (arith, ints), up)))
       (cases_Bool (is_one_of us u))
+
+-- at each name that the formula has they are its values
+filled_gives : (spans : Spans) (parts : List Claim) (p : List ℤ) → Gives spans parts p (filled spans parts p)
+filled_gives spans parts p u low is =
+    let T = entries_of (length spans) parts in
+    let one = in-filter (is_used (length spans) parts) 0 (length spans + length T) u (omega arith) (omega (arith, low)) is in
+    sym (cond-true (is_one_of (used (length spans) parts) u) (values_at p (place_in (used (length spans) parts) u)) (span_at spans u).0 one)
+
+pub points_of_numbers : PointsAreOfNumbers
+points_of_numbers spans parts some p point = (filled spans parts p, filled_in spans parts p some point, filled_gives spans parts p)
 
 -- a bit as a number
 bit_again : (z : ℤ) → IsWithin (pos 0, pos 1) z → cond (int_eq z (pos 1)) (pos 1) (pos 0) ≡ z
@@ -125,18 +136,12 @@ module _ (laws : Laws) (S : Tables) (k : ℕ) (table : Table) (there : slice_get
   abbrev parts : List Claim
   parts = cover_parts S fault table.grid ms
 
-  used-in : (u : ℕ) → u < length spans → IsTrue (is_used (length spans) parts u) → is_one_of (used (length spans) parts) u ≡ true
-  used-in u low is = in-filter (is_used (length spans) parts) 0 (length spans + length (entries_of (length spans) parts)) u (omega arith)
-      (omega (arith, low)) is
-
   module _ (p : List ℤ) (point : IsPointOf (cover_obliged S fault table.grid ms) p) where
     abbrev σ : ℕ → ℤ
     σ = filled spans parts p
 
-    values : (u : ℕ) → u < length spans → IsTrue (is_used (length spans) parts u) → values_at p (place_in (used (length spans) parts) u)
-        ≡ σ u
-    values u low is = sym (cond-true (is_one_of (used (length spans) parts) u) (values_at p (place_in (used (length spans) parts) u))
-        (span_at spans u).0 (used-in u low is))
+    values : Gives spans parts p σ
+    values = filled_gives spans parts p
 
     meets : MeetsAll S parts σ
     meets = record {

@@ -30,6 +30,7 @@ use Rattle.ft_claims.specs.declared.claim.Sym.TheVariants as out
 use Rattle.ft_claims.specs.declared.claim.Claim.{Claim}
 use Rattle.ft_claims.specs.declared.claim.Claim.TheOpen as layer
 use Rattle.ft_claims.specs.declared.claim.Claim.TheVariants as claim
+use Rattle.ft_claims.specs.laws.GoodLaws.{IsThere}
 use Rattle.ft_claims.specs.meaning.Claims.{equal, compared}
 use Rattle.ft_claims.specs.meaning.Names.{Frame, width, memo, sym_of, claim_of, recalled, keeper}
 use Rattle.ft_claims.specs.meaning.Parts.{joined, held_begins, held_goes_on, hyst_goes_on}
@@ -134,13 +135,6 @@ module _ (base : ℕ) where
       or-good _ (and_from _ _ (and-good _ (two-good _ _ (not-good _ below) on))
       (two-good _ _ (and-good _ (and_from _ _ below (two-good _ _ (le-good e lo ge glo) (not-good _ on))))
       (and-good _ (and_from _ _ below (two-good _ _ (not-good _ (le-good e lo ge glo)) (equal-good l before gl gb))))))
-
--- what stands in the set
-abbrev pub IsThere : Tables → Read → Type 0
-IsThere S (at_now x) = x < length S.vars
-IsThere S (at_before x) = x < length S.vars
-IsThere S (of_memory m) = m < length S.memories
-IsThere S (of_age m) = m < length S.memories
 
 carried : {xs ys : List Read} {r : Read} → ys ≡ xs → Contains xs r → Contains ys r
 carried {r = r} e = subst (λ zs. Contains zs r) (sym e)

@@ -25,6 +25,7 @@ pub mod MoveLemmas
 pub mod NamingLemmas
 pub mod NumberLemmas
 pub mod ObligedLemmas
+pub mod PartGood
 pub mod ReadLemmas
 pub mod ReadsThere
 pub mod RenumberLemmas

@@ -58,7 +58,7 @@ module _ (S : Tables) where
   now-ageless kinds (of_memory m) t = absurd (true≢false (sym t))
   now-ageless kinds (of_age m) t = absurd (true≢false (sym t))
 
-  may-ageless : (s : Section) (r : Read) → IsTrue (may_read S.vars S.memories s r) → IsAgeless S r
+  pub may-ageless : (s : Section) (r : Read) → IsTrue (may_read S.vars S.memories s r) → IsAgeless S r
   may-ageless section.In r t = now-ageless monitored r t
   may-ageless section.Req r t = side-ageless side.Req r t
   may-ageless section.Sof r t = side-ageless side.Sof r t

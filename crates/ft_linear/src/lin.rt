@@ -1,6 +1,6 @@
-ghost use Rattle.std.specs.Prelude.{◌≡◌, ◌≢◌, ◌≤◌, ◌↔◌, IsTrue, pos, length, unsigned_abs, All};
+ghost use Rattle.std.specs.Prelude.{◌≡◌, ◌≢◌, ◌≤◌, ◌↔◌, ◌+ℤ◌, IsTrue, pos, length, unsigned_abs, All};
 ghost use Rattle.std.specs.Option.{SomeIff};
-ghost use Rattle.ft_linear.specs.meaning.Form.{IsProper, IsSmall, AreRising, HasUnknowns, values_at, form_at};
+ghost use Rattle.ft_linear.specs.meaning.Form.{IsProper, IsSmall, AreRising, HasUnknowns, values_at, form_at, least, most};
 ghost use Rattle.ft_linear.specs.meaning.Part.{fixed_form};
 
 use crate::sums::{least_of, most_of, sum_of, whole};
@@ -118,15 +118,31 @@ impl Lin {
         whole(sum_of(self.factors(), values), self.constant())
     }
 
+    /// The least value of the form over an area.
+    pub fn least(&self, spans: &[Span]) -> i128
+        requires { HasUnknowns (length spans.now) self.now.factors }
+        ensures { result ≡ least spans.now self.now.factors +ℤ self.now.constant }
+    {
+        whole(least_of(self.factors(), spans), self.constant())
+    }
+
+    /// The greatest value of the form over an area.
+    pub fn most(&self, spans: &[Span]) -> i128
+        requires { HasUnknowns (length spans.now) self.now.factors }
+        ensures { result ≡ most spans.now self.now.factors +ℤ self.now.constant }
+    {
+        whole(most_of(self.factors(), spans), self.constant())
+    }
+
     /// What an area fixes the form's atom to: Yes where no value of the form is positive, No where each is,
     /// by the sum of the bounds.
     pub(crate) fn fixed(&self, spans: &[Span]) -> Three
         requires { HasUnknowns (length spans.now) self.now.factors }
         ensures { result ≡ fixed_form spans.now (Some self.now) }
     {
-        if whole(most_of(self.factors(), spans), self.constant()) <= 0 {
+        if self.most(spans) <= 0 {
             Three::Yes
-        } else if whole(least_of(self.factors(), spans), self.constant()) > 0 {
+        } else if self.least(spans) > 0 {
             Three::No
         } else {
             Three::Maybe

@@ -1,0 +1,4 @@
+-- The laws of composition, and what the proofs need of the crates below.
+pub mod CompositionLaws
+pub mod FailureLaws
+pub mod Laws

@@ -1,0 +1,4 @@
+pub mod NumberLemmas
+pub mod OneLemmas
+pub mod PartLemmas
+pub mod SpanLemmas

@@ -1,0 +1,7 @@
+-- Laws of the parts of block formulas and of their names, and what the proofs need of the crates below.
+pub mod Marked
+pub mod NumberLaws
+pub mod OwnSections
+pub mod PartLaws
+pub mod ReadsThere
+pub mod Tests

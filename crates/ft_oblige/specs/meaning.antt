@@ -1,0 +1,5 @@
+-- The formulas of blocks: their parts, which of these belong, and the numbers that a scan of a reading gives their names.
+pub mod Blocks
+pub mod Linked
+pub mod Obligations
+pub mod States

@@ -1,0 +1,8 @@
+//! The obligations of a set by number, and what the formulas of blocks are made of.
+#![tactic(auto)]
+
+mod number_law;
+mod part_law;
+
+pub use number_law::number_laws;
+pub use part_law::part_laws;
