@@ -1,2 +1,6 @@
 //! The checked set that a tree or a text spells, or the first of its faults.
 #![tactic(auto)]
+
+mod forms_law;
+
+pub use forms_law::lawful_form;

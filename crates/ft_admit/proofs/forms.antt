@@ -1,0 +1,3 @@
+-- Of what form the set is that a tree without a fault spells.
+pub mod Lists
+pub mod Lookups
