@@ -1,4 +1,7 @@
-use Rattle.ft_admit.proofs.forms.Lists.{total-is}
+use Rattle.ft_admit.proofs.forms.Variables.{placed}
+use Rattle.ft_admit.proofs.forms.Counts.{few-facts}
+use Rattle.ft_admit.proofs.forms.Names.{names-lawful}
+use Rattle.ft_admit.proofs.forms.Values.{init-within}
 use Rattle.ft_admit.proofs.forms.Lookups.{one-memory}
 use Rattle.ft_admit.proofs.forms_law.lawful_form.Goals as goal
 
