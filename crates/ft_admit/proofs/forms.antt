@@ -5,3 +5,5 @@ pub mod Variables
 pub mod Values
 pub mod Counts
 pub mod Names
+pub mod Numbers
+pub mod Targets

@@ -1,4 +1,6 @@
 use Rattle.ft_admit.proofs.forms.Variables.{placed}
+use Rattle.ft_admit.proofs.forms.Numbers.{has-both}
+use Rattle.ft_admit.proofs.forms.Targets.{defined-kind, target-is, var-here}
 use Rattle.ft_admit.proofs.forms.Counts.{few-facts}
 use Rattle.ft_admit.proofs.forms.Names.{names-lawful}
 use Rattle.ft_admit.proofs.forms.Values.{init-within}
