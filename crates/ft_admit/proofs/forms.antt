@@ -7,3 +7,4 @@ pub mod Counts
 pub mod Names
 pub mod Numbers
 pub mod Targets
+pub mod Tables

@@ -1,4 +1,5 @@
 use Rattle.ft_admit.proofs.forms.Variables.{placed}
+use Rattle.ft_admit.proofs.forms.Tables.{has-table, one-table, shaped, targets-differ, targets-right}
 use Rattle.ft_admit.proofs.forms.Numbers.{has-both}
 use Rattle.ft_admit.proofs.forms.Targets.{defined-kind, target-is, var-here}
 use Rattle.ft_admit.proofs.forms.Counts.{few-facts}
