@@ -8,3 +8,5 @@ pub mod Names
 pub mod Numbers
 pub mod Targets
 pub mod Tables
+pub mod Blocks
+pub mod Whole

@@ -45,7 +45,7 @@ allowed : (name : List ℕ) (place : Place) (b : Bool) → wrong_name name place
 allowed name place true none = refl
 allowed name place false none = absurd (none-some _ (sym none))
 
-matched : (place : Place) (b : Bool) → mismatch_at place b ≡ None → b ≡ true
+pub matched : (place : Place) (b : Bool) → mismatch_at place b ≡ None → b ≡ true
 matched place true none = refl
 matched place false none = absurd (none-some _ (sym none))
 
