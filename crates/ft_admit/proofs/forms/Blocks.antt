@@ -1,10 +1,9 @@
 -- The blocks of a fault-free set: some fact each, and what they take and have as goals.
-use Rattle.std.proofs.Common.{◌≡◌, ◌∙◌, sym, ap, subst, refl, inl, inr, ℕ, zero, suc, ◌+◌, ◌≤◌, ◌<◌, ℤ, Bool, true, false, not, ◌&&◌, ◌||◌}
-use Rattle.std.proofs.Common.{nat_le, nat_lt, List, [], ◌∷◌, ◌++◌, length, map, take, slice_get, Option, Some, None, option_map, bytes_eq}
+use Rattle.std.proofs.Common.{◌≡◌, ◌∙◌, sym, ap, subst, refl, ℕ, zero, suc, ◌≤◌, ◌<◌, Bool, true, false, not, ◌&&◌, ◌||◌}
+use Rattle.std.proofs.Common.{nat_le, List, [], ◌∷◌, ◌++◌, length, map, take, slice_get, Option, Some, None, option_map, bytes_eq}
 use Rattle.std.proofs.Common.{append-nil, append_assoc, arith}
 use Rattle.std.specs.Prelude.{if◌then◌else◌}
-use Rattle.std.specs.List.{Contains, flat_map, list_all, list_any}
-use Rattle.std.specs.Option.{option_or}
+use Rattle.std.specs.List.{Contains, flat_map, list_all}
 use Rattle.std.proofs.lemmas.Bool.{and_parts, lt-ltb, leb-true, or_left, or_right}
 use Rattle.std.proofs.lemmas.List.{length-map}
 use Rattle.std.proofs.lemmas.List.Elements.{Contains-append_left, Contains-append_right}
@@ -13,8 +12,6 @@ use Rattle.std.proofs.lemmas.Slice.Eq.{bytes_eq-Decides}
 use Rattle.ft_tree.specs.declared.item.Word.{Word}
 use Rattle.ft_tree.specs.declared.item.VarWord.{VarWord}
 use Rattle.ft_tree.specs.declared.item.VarWord.TheVariants as word
-use Rattle.ft_tree.specs.declared.item.SectionWord.{SectionWord}
-use Rattle.ft_tree.specs.declared.item.SectionWord.TheVariants as section
 use Rattle.ft_tree.specs.declared.item.FactItem.{FactItem}
 use Rattle.ft_tree.specs.declared.item.FactItem.TheVariants as fact
 use Rattle.ft_tree.specs.declared.item.Item.{Item}
@@ -25,7 +22,6 @@ use Rattle.ft_core.specs.declared.tables.Fact.TheVariants.{Goal}
 use Rattle.ft_core.specs.declared.tables.Memory.{Memory}
 use Rattle.ft_core.specs.declared.tables.Section.TheVariants as core
 use Rattle.ft_core.specs.declared.tables.Take.{Take}
-use Rattle.ft_core.specs.declared.tables.Take.TheVariants as takes
 use Rattle.ft_core.specs.declared.tables.Var.{Var}
 use Rattle.ft_core.specs.declared.tables.VarKind.TheVariants as kind
 use Rattle.ft_core.specs.meaning.Kinds.{controlled, defined_kinds, is_of, same_kind}
@@ -37,23 +33,23 @@ use Rattle.ft_names.specs.declared.card.Card.{Card}
 use Rattle.ft_names.specs.declared.card.Card.TheVariants as card
 use Rattle.ft_names.specs.declared.fault.NameFault.{NameFault}
 use Rattle.ft_names.specs.declared.walk.Role.TheVariants as role
-use Rattle.ft_names.specs.meaning.Cards.{Env, count_before, declares_memory, env_of}
+use Rattle.ft_names.specs.meaning.Cards.{Env, declares_memory, env_of}
 use Rattle.ft_names.specs.meaning.Declared.{fact_words, is_among, item_words}
-use Rattle.ft_names.specs.meaning.Duplicates.{Naming, item_namings, namings, repeated, set_namings, texts}
+use Rattle.ft_names.specs.meaning.Duplicates.{item_namings, namings, repeated, set_namings, texts}
 use Rattle.ft_names.specs.meaning.First.{first_of}
 use Rattle.ft_names.specs.meaning.NameFaults.{duplicate}
-use Rattle.ft_names.specs.meaning.Spots.{Spot, fact_spots, item_spots, named}
+use Rattle.ft_names.specs.meaning.Spots.{fact_spots, item_spots, named}
 use Rattle.ft_names.specs.laws.First.{first_of-append}
 use Rattle.ft_types.specs.meaning.Mismatch.{is_controlled, is_variable_or_memory}
 use Rattle.ft_types.specs.meaning.PlaceFaults.{first_mismatch, first_wrong_side}
 use Rattle.ft_types.specs.meaning.Sides.{is_given}
 use Rattle.ft_types.specs.meaning.Sides as sides_of
-use Rattle.ft_build.specs.meaning.Blocks.{block_of, build_block, card_take, fact_of, take_of, use_of}
+use Rattle.ft_build.specs.meaning.Blocks.{block_of, build_block, card_take, fact_of, take_of}
 use Rattle.ft_build.specs.meaning.Tables.{build_memory, place_in, variable_place}
 use Rattle.ft_build.specs.meaning.Variables.{no_places, var_kind, vars_from}
 use Rattle.ft_admit.proofs.forms.Counts.{memories-length}
-use Rattle.ft_admit.proofs.forms.Lists.{before-less, no-fault, nothing-in, one-more, one-place, only, or-none, times, times-is}
-use Rattle.ft_admit.proofs.forms.Lookups.{IsMemory, memory-of, one-memory, one-variable}
+use Rattle.ft_admit.proofs.forms.Lists.{before-less, nothing-in, one-more, one-place, only, or-none, times, times-is}
+use Rattle.ft_admit.proofs.forms.Lookups.{memory-of, one-memory, one-variable}
 use Rattle.ft_admit.proofs.forms.Targets.{map-there, used, var-here}
 use Rattle.ft_admit.proofs.forms.Variables.{is-of}
 
@@ -118,12 +114,12 @@ taken-once : (front : List (List ℕ)) (name : Word) (taken used_words shown : L
 taken-once front name taken used_words shown none n =
     let own = namings front (name ∷ []) in
     let a = or-none (first_of repeated (own ++ namings [] taken ++ namings [] used_words))
-        (first_of repeated (namings (front ++ name.text ∷ []) shown))
-        (sym (first_of-append repeated (own ++ namings [] taken ++ namings [] used_words) (namings (front ++ name.text ∷ []) shown)) ∙ none) in
+    (first_of repeated (namings (front ++ name.text ∷ []) shown))
+    (sym (first_of-append repeated (own ++ namings [] taken ++ namings [] used_words) (namings (front ++ name.text ∷ []) shown)) ∙ none) in
     let b = or-none (first_of repeated (own ++ namings [] taken)) (first_of repeated (namings [] used_words))
-        (sym (first_of-append repeated (own ++ namings [] taken) (namings [] used_words)) ∙ a.0) in
+    (sym (first_of-append repeated (own ++ namings [] taken) (namings [] used_words)) ∙ a.0) in
     let c = or-none (first_of repeated own) (first_of repeated (namings [] taken))
-        (sym (first_of-append repeated own (namings [] taken)) ∙ b.0) in
+    (sym (first_of-append repeated own (namings [] taken)) ∙ b.0) in
     words-once [] taken (λ n. omega arith) c.1 n
 
 -- a variable that is not given is defined by a requirement or a design table
@@ -163,11 +159,11 @@ module _ (items : List Item) (all : list_all is_item items ≡ true) (once : dup
         let f = block-from b block at in
         let lawful = ap is_item (sym f.3.is) ∙ all_pass is_item items all f.1 (contained items f.0 f.1 f.2) in
         let outer = and_parts (is_word f.3.name && are_listed f.3.taken && are_listed f.3.used_words && nat_le 1 (length f.3.facts))
-            (list_all is_fact f.3.facts) lawful in
+        (list_all is_fact f.3.facts) lawful in
         let inner = and_parts (is_word f.3.name && are_listed f.3.taken && are_listed f.3.used_words) (nat_le 1 (length f.3.facts)) outer.0 in
         let some = leb-true 1 (length f.3.facts) inner.1 in
         let long : length block.facts ≡ length f.3.facts =
-            ap (λ (x : Block). length x.facts) f.3.made ∙ length-map f.3.facts (fact_of (env_of items)) in
+        ap (λ (x : Block). length x.facts) f.3.made ∙ length-map f.3.facts (fact_of (env_of items)) in
         omega arith
 
     -- where a word after `takes` stands

@@ -1,5 +1,5 @@
 -- How many parts of each sort the set of a lawful tree has.
-use Rattle.std.proofs.Common.{◌≡◌, ◌∙◌, sym, ap, subst, refl, ℕ, suc, ◌+◌, ◌≤◌, Bool, true, false, cond, List, [], ◌∷◌, ◌++◌, length, map, arith}
+use Rattle.std.proofs.Common.{◌≡◌, ◌∙◌, sym, ap, subst, refl, ℕ, ◌+◌, ◌≤◌, Bool, true, false, cond, List, [], ◌∷◌, ◌++◌, length, arith}
 use Rattle.std.proofs.Common.{length-append}
 use Rattle.std.specs.Prelude.{count_by, sum_by, if◌then◌else◌}
 use Rattle.std.specs.List.{flat_map}
@@ -109,7 +109,7 @@ module _ (items : List Item) (env : Env) (counts : (sort : Sort) → count_by (�
         let c = few-of Step in
         let front = length-append (flat_map (build_clause First env) items) (flat_map (build_clause Always env) items) in
         let whole = length-append (flat_map (build_clause First env) items ++ flat_map (build_clause Always env) items)
-            (flat_map (build_clause Step env) items) in
+        (flat_map (build_clause Step env) items) in
         omega arith
 
     pub few-blocks : length (flat_map (build_block env) items) ≤ 300

@@ -1,6 +1,6 @@
 -- What a declared name stands for: the card that is found is its item's, and where names differ each card of an item is found.
-use Rattle.std.proofs.Common.{◌≡◌, ◌∙◌, sym, ap, subst, refl, ◌⊎◌, inl, inr, ⊎_elim, ℕ, zero, suc, ◌+◌, ◌<◌, Bool, true, List, [], ◌∷◌}
-use Rattle.std.proofs.Common.{◌++◌, length, map, take, slice_get, Option, Some, None, option_map, bytes_eq, arith}
+use Rattle.std.proofs.Common.{◌≡◌, ◌∙◌, sym, ap, subst, refl, inl, inr, ℕ, zero, suc, ◌+◌, ◌<◌, Bool, true, List, [], ◌∷◌}
+use Rattle.std.proofs.Common.{◌++◌, length, map, take, slice_get, Option, Some, option_map, bytes_eq, arith}
 use Rattle.std.specs.Prelude.{find, ℤ}
 use Rattle.std.specs.List.{Contains, enumerate_from, flat_map}
 use Rattle.std.proofs.lemmas.List.{map-append}
@@ -26,7 +26,7 @@ use Rattle.ft_names.specs.meaning.Cards.{cards_from, cards_of, count_before, dec
 use Rattle.ft_names.specs.meaning.Cards.{fact_cards, item_cards, kind_values, member_card}
 use Rattle.ft_names.specs.meaning.Declared.{entries, fact_words, item_words, listing, names_in}
 use Rattle.ft_names.specs.meaning.Duplicates.{texts}
-use Rattle.ft_admit.proofs.forms.Lists.{before-once, find-place, find-some, first-or, mapped-some, nothing-in, only, times, times-is}
+use Rattle.ft_admit.proofs.forms.Lists.{before-once, find-place, find-some, first-or, mapped-some, nothing-in, only, times-is}
 
 abbrev Carded : Type 0
 Carded = List (List ℕ × Card)
@@ -109,10 +109,14 @@ found items name card is =
     let entry = mapped-some (λ (e : List ℕ × Card). e.1) (find (λ (e : List ℕ × Card). bytes_eq name e.0) (cards_of items)) card is in
     let at = find-place (λ (e : List ℕ × Card). bytes_eq name e.0) (cards_of items) entry.0 entry.1 in
     let has = in-cards items 0 items entry.0 (contained (cards_of items) at.0 entry.0 at.1) in
-    let start : 0 + has.0 ≡ has.0 = omega arith in
-    (has.0, has.1, has.2, subst (λ e. Contains (item_cards items has.0 has.1) e)
-    (paired entry.0 name card ((bytes_eq-Decides name entry.0.0).0 at.2) entry.2)
-    (subst (λ n. Contains (item_cards items n has.1) entry.0) start has.3))
+    let start : 0 + has.0 ≡ has.0 = omega arith in (
+      has.0,
+      has.1,
+      has.2,
+      subst (λ e. Contains (item_cards items has.0 has.1) e)
+          (paired entry.0 name card ((bytes_eq-Decides name entry.0.0).0 at.2) entry.2)
+          (subst (λ n. Contains (item_cards items n has.1) entry.0) start has.3),
+    )
 
 -- where no two declarations have the same name, each card of an item is found
 pub carded : (items : List Item) → AreDistinct (names_in (listing 0 items)) → (k : ℕ) (it : Item) (name : List ℕ) (card : Card)
@@ -120,15 +124,15 @@ pub carded : (items : List Item) → AreDistinct (names_in (listing 0 items)) �
 carded items differ k it name card at has =
     let start : k ≡ 0 + k = omega arith in
     let mine = place-of (cards_of items) (name, card)
-        (to-cards items 0 items k it (name, card) at (subst (λ n. Contains (item_cards items n it) (name, card)) start has)) in
+    (to-cards items 0 items k it (name, card) at (subst (λ n. Contains (item_cards items n it) (name, card)) start has)) in
     let first = find-some (λ (e : List ℕ × Card). bytes_eq name e.0) (cards_of items) mine.0 (name, card) mine.1
-        ((bytes_eq-Decides name name).1 refl) in
+    ((bytes_eq-Decides name name).1 refl) in
     let there = find-place (λ (e : List ℕ × Card). bytes_eq name e.0) (cards_of items) first.0 first.1 in
     let called = (bytes_eq-Decides name first.0.0).0 there.2 in
     let a = slice_get-map (λ (e : List ℕ × Card). e.0) (cards_of items) mine.0
-        ∙ ap (option_map (λ (e : List ℕ × Card). e.0)) mine.1 in
+    ∙ ap (option_map (λ (e : List ℕ × Card). e.0)) mine.1 in
     let b = slice_get-map (λ (e : List ℕ × Card). e.0) (cards_of items) there.0
-        ∙ ap (option_map (λ (e : List ℕ × Card). e.0)) there.1 ∙ ap (λ (n : List ℕ). Some n) (sym called) in
+    ∙ ap (option_map (λ (e : List ℕ × Card). e.0)) there.1 ∙ ap (λ (n : List ℕ). Some n) (sym called) in
     let one = subst AreDistinct (names-carded items 0 items) differ mine.0 there.0 name a b in
     let same = same_Some (name, card) first.0 (sym mine.1 ∙ ap (slice_get (cards_of items)) one ∙ there.1) in
     ap (option_map (λ (e : List ℕ × Card). e.1)) first.1 ∙ ap (λ (e : List ℕ × Card). Some e.1) (sym same)
@@ -244,7 +248,7 @@ one-name : (items : List Item) (test : Item → Bool) (k l : ℕ) (x y : Item) (
     → texts (item_words x) ≡ a ∷ [] → texts (item_words y) ≡ b ∷ [] → a ≡ b
 one-name items test k l x y a b at_k at_l p q same names_a names_b =
     let place = before-once test items k l x y at_k at_l p q
-        (times-is test (take k items) ∙ same ∙ sym (times-is test (take l items))) in
+    (times-is test (take k items) ∙ same ∙ sym (times-is test (take l items))) in
     let one : x ≡ y = same_Some x y (sym at_k ∙ ap (slice_get items) place ∙ at_l) in
     let both : a ∷ [] ≡ b ∷ [] = sym names_a ∙ ap (λ (it : Item). texts (item_words it)) one ∙ names_b in
     cc

@@ -1,11 +1,11 @@
 -- The names of a set: each is a name, no two declarations have the same, and members of enum types are apart from both.
-use Rattle.std.proofs.Common.{◌≡◌, ◌∙◌, sym, ap, subst, refl, ◌⊎◌, inl, inr, ℕ, zero, suc, ◌+◌, ◌≤◌, Bool, true, false, not, ◌&&◌, ◌||◌, cond}
-use Rattle.std.proofs.Common.{nat_le, List, [], ◌∷◌, ◌++◌, length, map, slice_get, Option, Some, None, bytes_eq, arith}
+use Rattle.std.proofs.Common.{◌≡◌, ◌∙◌, sym, ap, subst, refl, inl, inr, ℕ, suc, ◌+◌, ◌≤◌, Bool, true, false, not, ◌&&◌, ◌||◌, cond}
+use Rattle.std.proofs.Common.{nat_le, List, [], ◌∷◌, ◌++◌, length, map, slice_get, Some, bytes_eq, arith}
 use Rattle.std.specs.Prelude.{◌==◌, codes}
 use Rattle.std.specs.List.{Contains, flat_map, list_all}
 use Rattle.std.proofs.lemmas.Bool.{and_from, and_parts, cases_Bool, le-leb, leb-true, or_cases, or_left, or_right, true≢false}
 use Rattle.std.proofs.lemmas.List.{map-append}
-use Rattle.std.proofs.lemmas.Option.{none-some, same_Some}
+use Rattle.std.proofs.lemmas.Option.{none-some}
 use Rattle.std.proofs.lemmas.Slice.Eq.{bytes_eq-Decides}
 use Rattle.ft_base.specs.Digits.{is_digit}
 use Rattle.ft_base.specs.Names.{begins_by_letter, is_letter, is_name, is_name_byte, is_reserved_word, reserved_words}
@@ -14,11 +14,10 @@ use Rattle.ft_tree.specs.declared.item.FactItem.{FactItem}
 use Rattle.ft_tree.specs.declared.item.FactItem.TheVariants as fact
 use Rattle.ft_tree.specs.declared.item.Item.{Item}
 use Rattle.ft_tree.specs.declared.item.Item.TheVariants as item
-use Rattle.ft_tree.specs.meaning.Limits.{are_entries, are_listed, is_bound, is_count, is_expr, is_fact, is_hold, is_init, is_item, is_kind}
+use Rattle.ft_tree.specs.meaning.Limits.{are_listed, is_bound, is_count, is_expr, is_fact, is_hold, is_init, is_item, is_kind}
 use Rattle.ft_tree.specs.meaning.Limits.{is_number, is_side, is_word}
 use Rattle.ft_core.specs.declared.tables.Var.{Var}
 use Rattle.ft_core.specs.declared.tables.Memory.{Memory}
-use Rattle.ft_core.specs.declared.tables.Fact.{Fact}
 use Rattle.ft_core.specs.declared.tables.Block.{Block}
 use Rattle.ft_core.specs.checked.Distinct.{AreDistinct}
 use Rattle.ft_core.specs.checked.Names.{AreNamed, declared_names, fact_names, is_lettered, is_mark, is_set_name, is_set_name_byte, memory_name}
@@ -26,7 +25,7 @@ use Rattle.ft_core.specs.laws.Lists.{all_pass, from_one, mapped}
 use Rattle.ft_core.specs.laws.Places.{contained, place-of}
 use Rattle.ft_names.specs.declared.card.Values.{Values}
 use Rattle.ft_names.specs.declared.card.Values.TheVariants.{Numbers, Truths, Members, Untyped}
-use Rattle.ft_names.specs.meaning.Cards.{Env, kind_values}
+use Rattle.ft_names.specs.meaning.Cards.{Env}
 use Rattle.ft_names.specs.meaning.Declared.{entries, fact_words, item_words, listing, names_in}
 use Rattle.ft_names.specs.meaning.Duplicates.{texts}
 use Rattle.ft_build.specs.declared.places.Places.{Places}
@@ -36,7 +35,6 @@ use Rattle.ft_build.specs.meaning.Variables.{build_var, counted, no_places, valu
 use Rattle.ft_admit.proofs.forms.Lists.{all-pass, distinct-by, few-times, first-or, map-flat, nothing-in, only, some-times, term-le, times, total}
 use Rattle.ft_admit.proofs.forms.Lists.{total-append, total-flat, total-le, total-plus}
 use Rattle.ft_admit.proofs.forms.Values.{Fit, value-members}
-use Rattle.ft_admit.proofs.forms.Variables.{IsDeclared, var-from}
 
 abbrev Names : Type 0
 Names = List (List ℕ)
@@ -281,35 +279,35 @@ module _ (items : List Item) (env : Env) (all : list_all is_item items ≡ true)
         ≤ often name (flat_map item_texts items)
     declared-often name =
         let v : often name (map (λ (v : Var). v.name) vars) ≡ total (λ it. often name (var_texts it)) items =
-            ap (often name) (var-names items env no_places items) ∙ by-items name var_texts in
+        ap (often name) (var-names items env no_places items) ∙ by-items name var_texts in
         let m : often name (map memory_name memories) ≡ total (λ it. often name (memory_texts it)) items =
-            ap (often name) (map-flat memory_name (build_memory items env) items)
-            ∙ by-items name (λ it. map memory_name (build_memory items env it))
-            ∙ ap (λ (f : Item → Names). total (λ it. often name (f it)) items) (λ i it. memory-names items env it i) in
+        ap (often name) (map-flat memory_name (build_memory items env) items)
+        ∙ by-items name (λ it. map memory_name (build_memory items env it))
+        ∙ ap (λ (f : Item → Names). total (λ it. often name (f it)) items) (λ i it. memory-names items env it i) in
         let b : often name (map (λ (b : Block). b.name) blocks) ≡ total (λ it. often name (block_texts it)) items =
-            ap (often name) (map-flat (λ (b : Block). b.name) (build_block env) items)
-            ∙ by-items name (λ it. map (λ (b : Block). b.name) (build_block env it))
-            ∙ ap (λ (f : Item → Names). total (λ it. often name (f it)) items) (λ i it. block-names env it i) in
+        ap (often name) (map-flat (λ (b : Block). b.name) (build_block env) items)
+        ∙ by-items name (λ it. map (λ (b : Block). b.name) (build_block env it))
+        ∙ ap (λ (f : Item → Names). total (λ it. often name (f it)) items) (λ i it. block-names env it i) in
         let s : often name (flat_map (λ (b : Block). flat_map fact_names b.facts) blocks) ≡ total (λ it. often name (shown_texts it)) items =
-            total-flat (λ x. cond (bytes_eq name x) 1 0) (λ (b : Block). flat_map fact_names b.facts) blocks
-            ∙ total-flat (λ (b : Block). often name (flat_map fact_names b.facts)) (build_block env) items
-            ∙ ap (λ (f : Item → ℕ). total f items)
-            (λ i it. (sym (total-flat (λ x. cond (bytes_eq name x) 1 0) (λ (b : Block). flat_map fact_names b.facts) (build_block env it))
-            ∙ shown-often env name it) i) in
+        total-flat (λ x. cond (bytes_eq name x) 1 0) (λ (b : Block). flat_map fact_names b.facts) blocks
+        ∙ total-flat (λ (b : Block). often name (flat_map fact_names b.facts)) (build_block env) items
+        ∙ ap (λ (f : Item → ℕ). total f items)
+        (λ i it. (sym (total-flat (λ x. cond (bytes_eq name x) 1 0) (λ (b : Block). flat_map fact_names b.facts) (build_block env it))
+        ∙ shown-often env name it) i) in
         let j = total-append (λ x. cond (bytes_eq name x) 1 0) (map (λ (v : Var). v.name) vars) (map memory_name memories) in
         let k = total-append (λ x. cond (bytes_eq name x) 1 0) (map (λ (v : Var). v.name) vars ++ map memory_name memories)
-            (map (λ (b : Block). b.name) blocks) in
+        (map (λ (b : Block). b.name) blocks) in
         let l = total-append (λ x. cond (bytes_eq name x) 1 0) (map (λ (v : Var). v.name) vars ++ map memory_name memories
-            ++ map (λ (b : Block). b.name) blocks) (flat_map (λ (b : Block). flat_map fact_names b.facts) blocks) in
+        ++ map (λ (b : Block). b.name) blocks) (flat_map (λ (b : Block). flat_map fact_names b.facts) blocks) in
         let p = total-plus (λ it. often name (shown_texts it)) (λ it. often name (enum_texts it)) items in
         let q = total-plus (λ it. often name (block_texts it)) (λ it. often name (shown_texts it) + often name (enum_texts it)) items in
         let r = total-plus (λ it. often name (memory_texts it)) (λ it. often name (block_texts it) + (often name (shown_texts it)
-            + often name (enum_texts it))) items in
+        + often name (enum_texts it))) items in
         let t = total-plus (λ it. often name (var_texts it)) (λ it. often name (memory_texts it) + (often name (block_texts it)
-            + (often name (shown_texts it) + often name (enum_texts it)))) items in
+        + (often name (shown_texts it) + often name (enum_texts it)))) items in
         let whole = by-items name item_texts in
         let each = total-le (λ it. often name (var_texts it) + (often name (memory_texts it) + (often name (block_texts it)
-            + (often name (shown_texts it) + often name (enum_texts it))))) (λ it. often name (item_texts it)) items (item-often name) in
+        + (often name (shown_texts it) + often name (enum_texts it))))) (λ it. often name (item_texts it)) items (item-often name) in
         omega arith
 
     -- each declared name is a name of the text
@@ -392,8 +390,8 @@ module _ (items : List Item) (env : Env) (all : list_all is_item items ≡ true)
       declared = all-pass is_set_name (declared_names vars memories blocks) (λ n has. set-name n (declared-named n has));
       differ = distinct-by bytes_eq same-self (declared_names vars memories blocks) declared-once;
       members = λ x v at.
-        let f = fits x v at in subst (λ names. list_all is_set_name names ≡ true) (sym f.1) (member-sets f.0 f.2);
+          let f = fits x v at in subst (λ names. list_all is_set_name names ≡ true) (sym f.1) (member-sets f.0 f.2);
       members_differ = λ x v at. let f = fits x v at in subst AreDistinct (sym f.1) (member-differ f.0 f.2);
       members_apart = λ x v member at has.
-        let f = fits x v at in member-apart f.0 f.2 member (subst (λ names. Contains names member) f.1 has);
+          let f = fits x v at in member-apart f.0 f.2 member (subst (λ names. Contains names member) f.1 has);
     }

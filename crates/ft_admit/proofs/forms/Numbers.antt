@@ -1,7 +1,7 @@
 -- The numbers of a fault-free set: its period, splits and depth, holds and bands, and that some variable is monitored and some controlled.
-use Rattle.std.proofs.Common.{◌≡◌, ◌∙◌, sym, ap, subst, refl, ℕ, ◌+◌, ◌≤◌, ℤ, pos, int_le, Bool, true, false, ◌&&◌, List, [], ◌∷◌, length, take, slice_get}
+use Rattle.std.proofs.Common.{◌≡◌, ◌∙◌, sym, ap, subst, refl, ℕ, ◌≤◌, ℤ, pos, int_le, Bool, true, false, ◌&&◌, List, take, slice_get}
 use Rattle.std.proofs.Common.{Option, Some, None, arith, ◌<ℤ◌, ◌≤ℤ◌}
-use Rattle.std.specs.Prelude.{int_lt, if◌then◌else◌}
+use Rattle.std.specs.Prelude.{int_lt}
 use Rattle.std.specs.List.{Contains, flat_map, list_all, list_any}
 use Rattle.std.specs.Option.{option_or}
 use Rattle.std.proofs.lemmas.Bool.{and_parts}
@@ -19,26 +19,23 @@ use Rattle.ft_tree.specs.declared.item.VarWord.TheVariants as word
 use Rattle.ft_tree.specs.declared.item.Item.{Item}
 use Rattle.ft_tree.specs.declared.item.Item.TheVariants as item
 use Rattle.ft_tree.specs.meaning.Limits.{is_bound, is_expr, is_item, is_side, is_word}
-use Rattle.ft_core.specs.declared.tables.Memory.{Memory}
 use Rattle.ft_core.specs.declared.tables.Memory.TheVariants.{Held, Hyst}
 use Rattle.ft_core.specs.declared.tables.Side.{Side}
-use Rattle.ft_core.specs.declared.tables.Var.{Var}
 use Rattle.ft_core.specs.declared.tables.VarKind.{VarKind}
 use Rattle.ft_core.specs.declared.term.Cond.{Cond}
 use Rattle.ft_core.specs.declared.term.Term.{Term}
-use Rattle.ft_core.specs.meaning.Kinds.{is_of, of_kind, same_kind}
+use Rattle.ft_core.specs.meaning.Kinds.{of_kind, same_kind}
 use Rattle.ft_core.specs.checked.Checked.{HasSome}
 use Rattle.ft_core.specs.checked.Sound.{IsHold, IsPeriod}
 use Rattle.ft_core.specs.laws.Lists.{all_pass, from_one}
 use Rattle.ft_core.specs.laws.Places.{contained}
 use Rattle.ft_core.specs.laws.Ranges.{within}
-use Rattle.ft_names.specs.declared.fault.NameFault.{NameFault}
 use Rattle.ft_names.specs.meaning.Cards.{Env, bound_value, declares_variable}
 use Rattle.ft_names.specs.meaning.First.{first_of}
 use Rattle.ft_names.specs.meaning.NameFaults.{declares_controlled, declares_monitored, no_variable, wanted}
-use Rattle.ft_types.specs.meaning.Ranges.{item_band, item_hold, item_range, lies, number_fault, option_fault, set_range}
+use Rattle.ft_types.specs.meaning.Ranges.{item_band, item_hold, lies, number_fault, option_fault, set_range}
 use Rattle.ft_build.specs.meaning.Sets.{or_default}
-use Rattle.ft_build.specs.meaning.Tables.{build_memory, side_of}
+use Rattle.ft_build.specs.meaning.Tables.{build_memory}
 use Rattle.ft_build.specs.meaning.Variables.{no_places, var_kind, vars_from}
 use Rattle.ft_admit.proofs.forms.Lists.{no-fault, nothing-in, only, or-none, some-passes, times}
 use Rattle.ft_admit.proofs.forms.Values.{bound-small, bounded, right}
@@ -55,7 +52,7 @@ pub numbers-within : (period : Number) (splits depth : Option Number) → set_ra
     → IsPeriod (pos period.value) × (or_default 200000 splits ≤ 200000) × (1 ≤ or_default 4 depth) × (or_default 4 depth ≤ 8)
 numbers-within period splits depth none =
     let first = or-none (number_fault (pos 1) (pos 10000) period)
-        (option_or (option_fault (pos 0) (pos 200000) splits) (option_fault (pos 1) (pos 8) depth)) none in
+    (option_or (option_fault (pos 0) (pos 200000) splits) (option_fault (pos 1) (pos 8) depth)) none in
     let rest = or-none (option_fault (pos 0) (pos 200000) splits) (option_fault (pos 1) (pos 8) depth) first.1 in
     (number-within (pos 1) (pos 10000) period first.0, few splits rest.0, some depth rest.1, low depth rest.1)
   where
@@ -130,7 +127,7 @@ module _ (items : List Item) (env : Env) where
       → slice_get (flat_map (build_memory items env) items) m ≡ Some (Held name s c hold) → IsHold hold
   holds none m name s c hold at =
       let one = from_one (build_memory items env) items (Held name s c hold)
-          (contained (flat_map (build_memory items env) items) m (Held name s c hold) at) in
+      (contained (flat_map (build_memory items env) items) m (Held name s c hold) at) in
       let h = held-item items env one.1 name s c hold one.3 in
       subst IsHold (sym h.is) (within (pos 0, pos 1000000) (bound_value items h.bound)
       (h.fault (no-fault (item_hold items) items none one.1 (contained items one.0 one.1 one.2))))
@@ -140,13 +137,13 @@ module _ (items : List Item) (env : Env) where
       → (lo <ℤ hi) × IsBounded 1000000000 lo hi
   bands none all m name s e lo hi start at =
       let one = from_one (build_memory items env) items (Hyst name s e lo hi start)
-          (contained (flat_map (build_memory items env) items) m (Hyst name s e lo hi start) at) in
+      (contained (flat_map (build_memory items env) items) m (Hyst name s e lo hi start) at) in
       let h = hyst-item items env one.1 name s e lo hi start one.3 in
       let lawful = h.lawful (all_pass is_item items all one.1 (contained items one.0 one.1 one.2)) in
       let less = less-from (bound_value items h.low) (bound_value items h.high)
-          (h.fault (no-fault (item_band items) items none one.1 (contained items one.0 one.1 one.2))) in
+      (h.fault (no-fault (item_band items) items none one.1 (contained items one.0 one.1 one.2))) in
       let wide = bounded (bound_value items h.low) (bound_value items h.high) less.1 (bound-small items all h.low lawful.0)
-          (bound-small items all h.high lawful.1) in
+      (bound-small items all h.high lawful.1) in
       subst (λ (z : ℤ). (z <ℤ hi) × IsBounded 1000000000 z hi) (sym h.low_is)
       (subst (λ (z : ℤ). (bound_value items h.low <ℤ z) × IsBounded 1000000000 (bound_value items h.low) z) (sym h.high_is)
       (less.0, wide))
@@ -186,13 +183,17 @@ module _ (items : List Item) (env : Env) where
       let at = some-passes test items any in
       let d = each at.1 at.3 in
       let v = var-at items env no_places items at.0 w d.name d.of d.init (at.2 ∙ ap (λ (it : Item). Some it) d.is) in
-      ∣ (times declares_variable (take at.0 items), is-of (vars_from items env no_places items) (of_kind (var_kind w)) _
-      (declared_var items env w d.name d.of d.init v.0) v.1 (kind-self w)) ∣₁
+      ∣ (
+        times declares_variable (take at.0 items),
+        is-of (vars_from items env no_places items) (of_kind (var_kind w)) _
+            (declared_var items env w d.name d.of d.init v.0) v.1 (kind-self w),
+      ) ∣₁
 
   pub has-both : no_variable items ≡ None → HasSome (vars_from items env no_places items) (of_kind (var_kind word.Mon))
       × HasSome (vars_from items env no_places items) (of_kind (var_kind word.Con))
   has-both none =
       let both = or-none (wanted (var_kind word.Mon) (list_any declares_monitored items))
-          (wanted (var_kind word.Con) (list_any declares_controlled items)) none in
-      (some-of word.Mon declares_monitored monitored-item (there-from (var_kind word.Mon) _ both.0),
-      some-of word.Con declares_controlled controlled-item (there-from (var_kind word.Con) _ both.1))
+      (wanted (var_kind word.Con) (list_any declares_controlled items)) none in (
+        some-of word.Mon declares_monitored monitored-item (there-from (var_kind word.Mon) _ both.0),
+        some-of word.Con declares_controlled controlled-item (there-from (var_kind word.Con) _ both.1),
+      )

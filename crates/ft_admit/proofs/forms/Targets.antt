@@ -1,9 +1,9 @@
 -- What stands at the places of a fault-free tree: names that are used stand for what they may.
-use Rattle.std.proofs.Common.{◌≡◌, ◌∙◌, sym, ap, subst, refl, ℕ, ◌<◌, Bool, true, false, not, ◌&&◌, ◌||◌, List, [], ◌∷◌, ◌++◌, length, map, take}
-use Rattle.std.proofs.Common.{slice_get, Option, Some, None, option_map, arith}
+use Rattle.std.proofs.Common.{◌≡◌, ◌∙◌, sym, ap, subst, refl, ℕ, Bool, true, false, ◌||◌, List, map, take}
+use Rattle.std.proofs.Common.{slice_get, Option, Some, None, option_map}
 use Rattle.std.specs.List.{Contains, flat_map}
 use Rattle.std.proofs.lemmas.Bool.{true≢false}
-use Rattle.std.proofs.lemmas.List.Elements.{Contains-append_left, Contains-append_right}
+use Rattle.std.proofs.lemmas.List.Elements.{Contains-append_right}
 use Rattle.std.proofs.lemmas.Option.{none-some, slice_get-map}
 use Rattle.ft_base.specs.declared.place.Place.{Place}
 use Rattle.ft_tree.specs.declared.item.Word.{Word}
@@ -15,7 +15,6 @@ use Rattle.ft_tree.specs.declared.item.SectionWord.TheVariants as section
 use Rattle.ft_tree.specs.declared.item.Item.{Item}
 use Rattle.ft_tree.specs.declared.item.Item.TheVariants as item
 use Rattle.ft_core.specs.declared.tables.Var.{Var}
-use Rattle.ft_core.specs.declared.tables.VarKind.{VarKind}
 use Rattle.ft_core.specs.declared.tables.VarKind.TheVariants as kind
 use Rattle.ft_core.specs.meaning.Kinds.{defined_kinds, same_kind}
 use Rattle.ft_core.specs.laws.Lists.{in_all, mapped}
@@ -25,8 +24,8 @@ use Rattle.ft_names.specs.declared.card.Card.TheVariants as card
 use Rattle.ft_names.specs.declared.card.Values.{Values}
 use Rattle.ft_names.specs.declared.walk.Role.{Role}
 use Rattle.ft_names.specs.declared.walk.Role.TheVariants as role
-use Rattle.ft_names.specs.meaning.Cards.{count_before, declares_variable, env_of}
-use Rattle.ft_names.specs.meaning.Spots.{Spot, conditions, item_spots, named, section_site, spots, vector_row}
+use Rattle.ft_names.specs.meaning.Cards.{declares_variable, env_of}
+use Rattle.ft_names.specs.meaning.Spots.{conditions, item_spots, named, section_site, spots, vector_row}
 use Rattle.ft_types.specs.meaning.Mismatch.{fits, is_variable, mismatch_at}
 use Rattle.ft_types.specs.meaning.PlaceFaults.{first_mismatch, first_wrong_side}
 use Rattle.ft_types.specs.meaning.Mismatch.{mismatch_spot}
@@ -35,7 +34,7 @@ use Rattle.ft_types.specs.meaning.Targets.{Target, item_targets}
 use Rattle.ft_build.specs.meaning.Tables.{section_of}
 use Rattle.ft_build.specs.meaning.Variables.{no_places, var_kind, vars_from}
 use Rattle.ft_admit.proofs.forms.Lists.{no-fault, nothing-in, only, times, times-is}
-use Rattle.ft_admit.proofs.forms.Lookups.{IsVariable, variable-of}
+use Rattle.ft_admit.proofs.forms.Lookups.{variable-of}
 use Rattle.ft_admit.proofs.forms.Variables.{declared_var, var-at}
 
 pub map-there : {X Y : Type 0} (f : X → Y) (xs : List X) (k : ℕ) (x : X) → slice_get xs k ≡ Some x → Contains (map f xs) (f x)
@@ -54,10 +53,11 @@ pub used : (items : List Item) → first_wrong_side items ≡ None → first_mis
     → slice_get items k ≡ Some it → (r : Role) (w : Word) → Contains (item_spots it) (named r w)
     → (may_use r (env_of items w.text) ≡ true) × (fits r (env_of items w.text) ≡ true)
 used items sides kinds k it at r w has =
-    let there = in_all item_spots items k it (named r w) at has in
-    (allowed w.text w.place (may_use r (env_of items w.text))
-    (no-fault (side_spot (env_of items)) (spots items) sides (named r w) there),
-    matched w.place (fits r (env_of items w.text)) (no-fault (mismatch_spot (env_of items)) (spots items) kinds (named r w) there))
+    let there = in_all item_spots items k it (named r w) at has in (
+      allowed w.text w.place (may_use r (env_of items w.text))
+          (no-fault (side_spot (env_of items)) (spots items) sides (named r w) there),
+      matched w.place (fits r (env_of items w.text)) (no-fault (mismatch_spot (env_of items)) (spots items) kinds (named r w) there),
+    )
 
 -- the target of a table is a place of its item
 pub target-spot : (it : Item) (t : Target) → Contains (item_targets it) t → Contains (item_spots it) (named (role.Target t.0) t.1)
@@ -111,9 +111,11 @@ var-here items name place w values is =
     let x = variable-of items name place w values is in
     let v = var-at items (env_of items) no_places items x.0 w x.3.word x.3.of x.3.init (x.2 ∙ ap (λ (it : Item). Some it) x.3.is) in
     let here : place ≡ times declares_variable (take x.0 items) =
-        x.3.placed ∙ sym (times-is declares_variable (take x.0 items)) in
-    (declared_var items (env_of items) w x.3.word x.3.of x.3.init v.0,
-    ap (slice_get (vars_from items (env_of items) no_places items)) here ∙ v.1, refl)
+    x.3.placed ∙ sym (times-is declares_variable (take x.0 items)) in (
+      declared_var items (env_of items) w x.3.word x.3.of x.3.init v.0,
+      ap (slice_get (vars_from items (env_of items) no_places items)) here ∙ v.1,
+      refl,
+    )
 
 -- a variable that a section's tables may define is one of the section's kinds
 pub defined-kind : (s : SectionWord) (w : VarWord) (x : ℕ) (v : Var) → defines s w ≡ true → v.kind ≡ var_kind w

@@ -1,9 +1,8 @@
 -- The values of a fault-free set's variables: their ranges, members and `init` values.
-use Rattle.std.proofs.Common.{◌≡◌, ◌∙◌, sym, ap, subst, refl, inl, inr, ℕ, zero, suc, ◌+◌, ◌-◌, ◌≤◌, ◌<◌, ℤ, pos, neg_ℤ, int_le, nat_le}
-use Rattle.std.proofs.Common.{Bool, true, false, ◌&&◌, cond, List, [], ◌∷◌, length, map, slice_get, Option, Some, None, bytes_eq, arith}
-use Rattle.std.specs.Prelude.{option_and_then, unsigned_abs, ◌==◌, not, codes}
-use Rattle.std.specs.List.{Contains, list_all}
-use Rattle.std.specs.Option.{option_or}
+use Rattle.std.proofs.Common.{◌≡◌, ◌∙◌, sym, ap, subst, refl, inl, inr, ℕ, ◌-◌, ◌≤◌, ◌<◌, ℤ, pos, int_le, nat_le}
+use Rattle.std.proofs.Common.{Bool, true, false, ◌&&◌, List, [], length, map, slice_get, Option, Some, None, bytes_eq, arith}
+use Rattle.std.specs.Prelude.{option_and_then, unsigned_abs, not}
+use Rattle.std.specs.List.{list_all}
 use Rattle.std.proofs.lemmas.Bool.{and_from, and_parts, cases_Bool, cond-false, cond-true, le-leb, leb-true}
 use Rattle.std.proofs.lemmas.Bool.Decides.{Decides-eqb}
 use Rattle.std.proofs.lemmas.Int.{ints}
@@ -41,7 +40,7 @@ use Rattle.ft_types.specs.meaning.Ranges.{init_fault, item_range, kind_fault, li
 use Rattle.ft_build.specs.meaning.Variables.{init_value, is_range, member_names, named_position, position_of, ranged, truth_position}
 use Rattle.ft_build.specs.meaning.Variables.{value_members, values_range}
 use Rattle.ft_admit.proofs.forms.Lists.{no-fault, or-none}
-use Rattle.ft_admit.proofs.forms.Lookups.{IsMember, carded, member-of}
+use Rattle.ft_admit.proofs.forms.Lookups.{carded, member-of}
 
 -- a test that gives no fault is passed
 pub right : (b : Bool) (fault : TypeFault) → unless b fault ≡ None → b ≡ true
@@ -172,7 +171,7 @@ module _ (items : List Item) (all : list_all is_item items ≡ true) (ranges : f
   values-fit k w name of init at =
       let lawful = and_parts (is_word name && is_kind of) (is_init init) (lawful-at k (item.Variable w name of init) at) in
       let none = or-none (kind_fault items of) (init_fault items (kind_values items of) init)
-          (no-fault (item_range items) items ranges (item.Variable w name of init) (contained items k (item.Variable w name of init) at)) in
+      (no-fault (item_range items) items ranges (item.Variable w name of init) (contained items k (item.Variable w name of init) at)) in
       (kind-fits of (and_parts (is_word name) (is_kind of) lawful.0).1 none.0, none.1)
 
 -- members
@@ -255,7 +254,7 @@ module _ (items : List Item) (differ : AreDistinct (names_in (listing 0 items)))
       let m = member-of items name number position found in
       let of_type : number ≡ k = (Decides-eqb number k).0 is in
       let there : slice_get items k ≡ Some (item.EnumType m.3.word m.3.members) =
-          ap (slice_get items) (sym of_type ∙ m.3.numbered) ∙ m.2 ∙ ap (λ (it : Item). Some it) m.3.is in
+      ap (slice_get items) (sym of_type ∙ m.3.numbered) ∙ m.2 ∙ ap (λ (it : Item). Some it) m.3.is in
       let one : item.EnumType m.3.word m.3.members ≡ item.EnumType e.word e.members = same_Some _ _ (sym there ∙ e.at) in
       let long : length m.3.members ≡ length e.members = ap (λ (it : Item). length (members_in it)) one in
       let below = m.3.within in
@@ -282,7 +281,7 @@ module _ (items : List Item) (differ : AreDistinct (names_in (listing 0 items)))
   init-within of init Truths is fit none value = truth-within init.value
   init-within of init (Members k count) is fit none value =
       let asked : is_value_of (env_of items) (expr_kind.Members k) init ≡ true =
-          ap (λ (e : ExprKind). is_value_of (env_of items) e init) (sym (member-kind of k count is)) ∙ value in
+      ap (λ (e : ExprKind). is_value_of (env_of items) e init) (sym (member-kind of k count is)) ∙ value in
       position-within count (named_position (env_of items) init.value) fit.few
       (member-position k count fit init.value (and_parts (not init.minus) (is_member_name (env_of items) k init.value) asked).1)
   init-within of init Untyped is fit none value = within (pos 0, pos 0) (pos 0) refl

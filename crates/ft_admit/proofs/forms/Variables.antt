@@ -1,5 +1,5 @@
 -- The variables of a set by the items that declare them: their places among all and among those of their kind.
-use Rattle.std.proofs.Common.{◌≡◌, ◌∙◌, sym, ap, subst, refl, ℕ, zero, suc, ◌+◌, ◌≤◌, ◌<◌, Bool, true, false, cond, List, [], ◌∷◌, ◌++◌}
+use Rattle.std.proofs.Common.{◌≡◌, ◌∙◌, sym, ap, subst, refl, ℕ, zero, suc, ◌+◌, true, false, cond, List, [], ◌∷◌, ◌++◌}
 use Rattle.std.proofs.Common.{length, take, slice_get, Option, Some, None, arith}
 use Rattle.std.proofs.lemmas.Option.{none-some, same_Some}
 use Rattle.ft_tree.specs.declared.item.Word.{Word}
@@ -12,11 +12,11 @@ use Rattle.ft_tree.specs.declared.item.Item.TheVariants as item
 use Rattle.ft_core.specs.declared.tables.Var.{Var}
 use Rattle.ft_core.specs.declared.tables.VarKind.{VarKind}
 use Rattle.ft_core.specs.declared.tables.VarKind.TheVariants as kind
-use Rattle.ft_core.specs.meaning.Kinds.{Kinds, count_of, is_of, of_kind, place_of, same_kind}
+use Rattle.ft_core.specs.meaning.Kinds.{Kinds, is_of, of_kind, place_of, same_kind}
 use Rattle.ft_names.specs.meaning.Cards.{Env, declares_variable, kind_values}
 use Rattle.ft_build.specs.declared.places.Places.{Places}
 use Rattle.ft_build.specs.meaning.Variables.{build_var, counted, init_value, no_places, one_more, place_among, var_kind, var_of, vars_from}
-use Rattle.ft_admit.proofs.forms.Lists.{times, total}
+use Rattle.ft_admit.proofs.forms.Lists.{times}
 
 -- the variable that an item declares, at some place among those of its kind
 abbrev pub declared_var : List Item → Env → VarWord → Word → Kind → Bound → ℕ → Var
@@ -112,9 +112,11 @@ pub var-at : (items : List Item) (env : Env) (before : Places) (xs : List Item) 
     ≡ Some (declared_var items env w name of init p))
 unfolding vars_from
 var-at items env before [] k w name of init at = absurd (none-some (item.Variable w name of init) at)
-var-at items env before (y ∷ xs) zero w name of init at =
-    (place_among w before, ap (λ (z : Item). slice_get (build_var items env before z ++ vars_from items env (counted before z) xs) 0)
-    (same_Some y (item.Variable w name of init) at))
+var-at items env before (y ∷ xs) zero w name of init at = (
+  place_among w before,
+  ap (λ (z : Item). slice_get (build_var items env before z ++ vars_from items env (counted before z) xs) 0)
+      (same_Some y (item.Variable w name of init) at),
+)
 var-at items env before (y ∷ xs) (suc k) w name of init at =
     let rest = var-at items env (counted before y) xs k w name of init at in
     (rest.0, behind items env before y (vars_from items env (counted before y) xs) (times declares_variable (take k xs)) ∙ rest.1)

@@ -1,7 +1,7 @@
 -- A tree without a fault spells a set of lawful form.
-use Rattle.std.proofs.Common.{◌≡◌, ◌∙◌, sym, ap, subst, refl, ℕ, ◌-◌, ◌≤◌, ◌<◌, true, List, [], ◌∷◌, ◌++◌, length, slice_get, Option, Some, None, arith}
-use Rattle.std.specs.Prelude.{ℤ, pos}
-use Rattle.std.specs.List.{Contains, list_all}
+use Rattle.std.proofs.Common.{◌≡◌, sym, ap, subst, refl, ℕ, ◌-◌, ◌≤◌, ◌<◌, true, List, [], ◌∷◌, length, slice_get, Option, Some, None, arith}
+use Rattle.std.specs.Prelude.{pos}
+use Rattle.std.specs.List.{list_all}
 use Rattle.std.specs.Option.{option_or}
 use Rattle.ft_base.specs.Interval.{IsBounded, IsWithin}
 use Rattle.ft_tree.specs.declared.item.Item.{Item}
@@ -24,7 +24,7 @@ use Rattle.ft_names.specs.meaning.Spots.{initial, item_spots, kind_spots, spots}
 use Rattle.ft_types.specs.meaning.Mismatch.{is_value_of, mismatch_spot, type_kind}
 use Rattle.ft_types.specs.meaning.Ranges.{item_range, set_range}
 use Rattle.ft_build.specs.meaning.Sets.{or_default, set_of}
-use Rattle.ft_build.specs.meaning.Variables.{init_value, no_places, value_members, values_range, vars_from}
+use Rattle.ft_build.specs.meaning.Variables.{no_places, value_members, vars_from}
 use Rattle.ft_admit.specs.laws.FormFacts.{FormIsLawful, HasLawfulForm}
 use Rattle.ft_admit.specs.meaning.Faultless.{IsFaultless}
 use Rattle.ft_admit.proofs.forms.Blocks.{goals-right, some-fact, takes-differ, takes-right}
@@ -32,10 +32,11 @@ use Rattle.ft_admit.proofs.forms.Counts.{few-blocks, few-clauses, few-facts, few
 use Rattle.ft_admit.proofs.forms.Lists.{no-fault, or-none}
 use Rattle.ft_admit.proofs.forms.Names.{names-lawful}
 use Rattle.ft_admit.proofs.forms.Numbers.{bands, has-both, holds, numbers-within}
-use Rattle.ft_admit.proofs.forms.Tables.{has-table, one-table, shaped, targets-differ, targets-right}
+use Rattle.ft_admit.proofs.forms.Shapes.{shaped}
+use Rattle.ft_admit.proofs.forms.Tables.{has-table, one-table, targets-differ, targets-right}
 use Rattle.ft_admit.proofs.forms.Targets.{matched}
 use Rattle.ft_admit.proofs.forms.Values.{Fit, enum-range, few-members, init-within, range-bounded, values-fit}
-use Rattle.ft_admit.proofs.forms.Variables.{IsDeclared, declared_var, placed, var-from}
+use Rattle.ft_admit.proofs.forms.Variables.{IsDeclared, placed, var-from}
 
 module _ (name : List ℕ) (period : Number) (splits depth : Option Number) (items : List Item)
     (fine : IsFaultless name period splits depth items) (differ : AreDistinct (names_in (listing 0 items)))
@@ -69,7 +70,7 @@ module _ (name : List ℕ) (period : Number) (splits depth : Option Number) (ite
     initial-right x v d =
         let it : Item = item.Variable d.word d.name d.of d.init in
         let last = Contains-append_right (kind_spots d.of) (initial d.of d.init ∷ []) (initial d.of d.init)
-            (contained (initial d.of d.init ∷ []) 0 (initial d.of d.init) refl) in
+        (contained (initial d.of d.init ∷ []) 0 (initial d.of d.init) refl) in
         matched d.init.place (is_value_of env (type_kind env d.of) d.init)
         (no-fault (mismatch_spot env) (spots items) fine.kinds (initial d.of d.init)
         (in_all item_spots items d.number it (initial d.of d.init) d.at last))

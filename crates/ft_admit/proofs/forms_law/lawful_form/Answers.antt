@@ -2,4 +2,4 @@ use Rattle.ft_admit.proofs.forms.Whole.{lawful}
 use Rattle.ft_admit.proofs.forms_law.lawful_form.Goals as goal
 
 pub returns : goal.returns
-returns c = lawful
+returns c = lawful c.names_differ.ensures
