@@ -1,8 +1,7 @@
 -- The blocks of a fault-free set: some fact each, and what they take and have as goals.
-use Rattle.std.proofs.Common.{◌≡◌, ◌∙◌, sym, ap, subst, refl, ℕ, zero, suc, ◌≤◌, ◌<◌, Bool, true, false, not, ◌&&◌, ◌||◌}
+use Rattle.std.proofs.Common.{◌≡◌, ◌∙◌, sym, ap, subst, refl, ℕ, zero, suc, ◌≤◌, ◌<◌, true, false, not, ◌&&◌, ◌||◌}
 use Rattle.std.proofs.Common.{nat_le, List, [], ◌∷◌, ◌++◌, length, map, take, slice_get, Option, Some, None, option_map, bytes_eq}
 use Rattle.std.proofs.Common.{append-nil, append_assoc, arith}
-use Rattle.std.specs.Prelude.{if◌then◌else◌}
 use Rattle.std.specs.List.{Contains, flat_map, list_all}
 use Rattle.std.proofs.lemmas.Bool.{and_parts, lt-ltb, leb-true, or_left, or_right}
 use Rattle.std.proofs.lemmas.List.{length-map}
@@ -31,7 +30,6 @@ use Rattle.ft_core.specs.laws.Lists.{all_pass, from_one, in_all, mapped}
 use Rattle.ft_core.specs.laws.Places.{contained, place-of}
 use Rattle.ft_names.specs.declared.card.Card.{Card}
 use Rattle.ft_names.specs.declared.card.Card.TheVariants as card
-use Rattle.ft_names.specs.declared.fault.NameFault.{NameFault}
 use Rattle.ft_names.specs.declared.walk.Role.TheVariants as role
 use Rattle.ft_names.specs.meaning.Cards.{Env, declares_memory, env_of}
 use Rattle.ft_names.specs.meaning.Declared.{fact_words, is_among, item_words}
@@ -48,6 +46,7 @@ use Rattle.ft_build.specs.meaning.Blocks.{block_of, build_block, card_take, fact
 use Rattle.ft_build.specs.meaning.Tables.{build_memory, place_in, variable_place}
 use Rattle.ft_build.specs.meaning.Variables.{no_places, var_kind, vars_from}
 use Rattle.ft_admit.proofs.forms.Counts.{memories-length}
+use Rattle.ft_admit.proofs.forms.Lists.{failed, same-self}
 use Rattle.ft_admit.proofs.forms.Lists.{before-less, nothing-in, one-more, one-place, only, or-none, times, times-is}
 use Rattle.ft_admit.proofs.forms.Lookups.{memory-of, one-memory, one-variable}
 use Rattle.ft_admit.proofs.forms.Targets.{map-there, used, var-here}
@@ -76,11 +75,7 @@ block-item env _ block has = absurd (nothing-in block has)
 -- the names after `takes` differ
 
 new-name : (before : List (List ℕ)) (w : Word) → repeated (before, w) ≡ None → is_among before w.text ≡ false
-new-name before w none = by (is_among before w.text) _ none
-  where
-    by : (b : Bool) (fault : NameFault) → (if b then Some fault else None) ≡ None → b ≡ false
-    by true fault none = absurd (none-some fault (sym none))
-    by false fault none = refl
+new-name before w none = failed (is_among before w.text) _ none
 
 words-once : (before : List (List ℕ)) (words : List Word) → ((name : List ℕ) → times (bytes_eq name) before ≤ 1)
     → first_of repeated (namings before words) ≡ None → (name : List ℕ) → times (bytes_eq name) (before ++ texts words) ≤ 1
@@ -160,7 +155,8 @@ module _ (items : List Item) (all : list_all is_item items ≡ true) (once : dup
         let lawful = ap is_item (sym f.3.is) ∙ all_pass is_item items all f.1 (contained items f.0 f.1 f.2) in
         let outer = and_parts (is_word f.3.name && are_listed f.3.taken && are_listed f.3.used_words && nat_le 1 (length f.3.facts))
         (list_all is_fact f.3.facts) lawful in
-        let inner = and_parts (is_word f.3.name && are_listed f.3.taken && are_listed f.3.used_words) (nat_le 1 (length f.3.facts)) outer.0 in
+        let inner = and_parts (is_word f.3.name && are_listed f.3.taken && are_listed f.3.used_words)
+        (nat_le 1 (length f.3.facts)) outer.0 in
         let some = leb-true 1 (length f.3.facts) inner.1 in
         let long : length block.facts ≡ length f.3.facts =
         ap (λ (x : Block). length x.facts) f.3.made ∙ length-map f.3.facts (fact_of (env_of items)) in
@@ -232,7 +228,7 @@ module _ (items : List Item) (all : list_all is_item items ≡ true) (once : dup
             let a = slice_get-map (λ (u : Word). u.text) d.taken k ∙ ap (option_map (λ (u : Word). u.text)) v.1 in
             let c = slice_get-map (λ (u : Word). u.text) d.taken l ∙ ap (option_map (λ (u : Word). u.text)) w.1 in
             one-place (bytes_eq v.0.text) (texts d.taken) (few v.0.text) k l v.0.text w.0.text a c
-            ((bytes_eq-Decides v.0.text v.0.text).1 refl) ((bytes_eq-Decides v.0.text w.0.text).1 same)
+            (same-self v.0.text) ((bytes_eq-Decides v.0.text w.0.text).1 same)
 
     -- where a goal stands
     goal-spot : (it : Item) (block : Block) (d : IsBlock (env_of items) it block) (k : ℕ) (con : Word)

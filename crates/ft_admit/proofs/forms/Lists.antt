@@ -1,7 +1,8 @@
 -- Totals and counts over lists, places at which at most one element passes a test, and what stands in lists that are joined.
+use Rattle.std.proofs.Common.{bytes_eq}
 use Rattle.std.proofs.Common.{◌≡◌, ◌∙◌, sym, ap, refl, ◌⊎◌, inl, inr, ℕ, zero, suc, ◌+◌, ◌≤◌, ◌<◌, Bool, true, false, cond}
 use Rattle.std.proofs.Common.{◌||◌, List, [], ◌∷◌, ◌++◌, length, map, take, slice_get, Option, Some, None, arith}
-use Rattle.std.specs.Prelude.{sum_by, count_by, find, option_map}
+use Rattle.std.specs.Prelude.{if◌then◌else◌, sum_by, count_by, find, option_map}
 use Rattle.std.specs.List.{Contains, flat_map, list_all, list_any}
 use Rattle.std.specs.Option.{option_or}
 use Rattle.std.proofs.Math.Nat.{not-suc-le-zero, le_of_suc-le-suc, suc-ne-zero}
@@ -9,6 +10,7 @@ use Rattle.std.proofs.lemmas.Bool.{and_from, cases_Bool, or_left, or_right, true
 use Rattle.std.proofs.lemmas.List.{map-append}
 use Rattle.std.proofs.lemmas.List.Sums.{sum_by-cons}
 use Rattle.std.proofs.lemmas.Option.{none-some, same_Some}
+use Rattle.std.proofs.lemmas.Slice.Eq.{bytes_eq-Decides}
 use Rattle.ft_core.specs.checked.Distinct.{AreDistinct}
 use Rattle.ft_core.specs.laws.Places.{contained, place-of}
 use Rattle.ft_names.specs.meaning.First.{first_of}
@@ -84,6 +86,18 @@ some-times test xs k x at passes =
     let most = term-le (λ y. cond (test y) 1 0) xs k x at in
     omega arith
 
+-- one that passes stands there
+pub times-some : {X : Type 0} (test : X → Bool) (xs : List X) → 1 ≤ times test xs → (k : ℕ) × (x : X) × (slice_get xs k ≡ Some x)
+    × (test x ≡ true)
+times-some test [] some = absurd (omega arith)
+times-some test (x ∷ xs) some = elim (cases_Bool (test x)) [
+  | inl passes ↦ (0, x, refl, passes)
+  | inr fails ↦
+      let nothing = no_one (test x) fails in
+      let rest = times-some test xs (omega arith) in
+      (suc rest.0, rest.1, rest.2, rest.3)
+]
+
 pub no-times : {X : Type 0} (test : X → Bool) (xs : List X) → ((k : ℕ) (x : X) → slice_get xs k ≡ Some x → test x ≡ true → ⊥)
     → times test xs ≡ 0
 no-times test [] none = refl
@@ -135,6 +149,10 @@ few-times test (x ∷ xs) once = elim (cases_Bool (test x)) [
 pub distinct-by : {X : Type 0} (same : X → X → Bool) (self : (x : X) → same x x ≡ true) (xs : List X)
     → ((x : X) → times (same x) xs ≤ 1) → AreDistinct xs
 distinct-by same self xs few k l x at_k at_l = one-place (same x) xs (few x) k l x x at_k at_l (self x) (self x)
+
+-- a text is itself
+pub same-self : (text : List ℕ) → bytes_eq text text ≡ true
+same-self text = (bytes_eq-Decides text text).1 refl
 
 -- what a new element leaves: no key stands twice
 module _ {X K : Type 0} (test : K → X → Bool) (key : X → K) (agree : (q : K) (x : X) → test q x ≡ true → q ≡ key x) where
@@ -232,6 +250,16 @@ mapped-some f None y is = absurd (none-some y is)
 mapped-some f (Some x) y is = (x, refl, same_Some (f x) y is)
 
 -- no fault
+
+-- a test is passed that gives a fault where it fails
+pub passed : {Y : Type 0} (b : Bool) (fault : Y) → (if b then None else Some fault) ≡ None → b ≡ true
+passed true fault none = refl
+passed false fault none = absurd (none-some fault (sym none))
+
+-- and one is not passed that gives a fault where it is
+pub failed : {Y : Type 0} (b : Bool) (fault : Y) → (if b then Some fault else None) ≡ None → b ≡ false
+failed true fault none = absurd (none-some fault (sym none))
+failed false fault none = refl
 
 pub or-none : {Y : Type 0} (a b : Option Y) → option_or a b ≡ None → (a ≡ None) × (b ≡ None)
 or-none None b none = (refl, none)

@@ -26,6 +26,7 @@ use Rattle.ft_names.specs.meaning.Cards.{cards_from, cards_of, count_before, dec
 use Rattle.ft_names.specs.meaning.Cards.{fact_cards, item_cards, kind_values, member_card}
 use Rattle.ft_names.specs.meaning.Declared.{entries, fact_words, item_words, listing, names_in}
 use Rattle.ft_names.specs.meaning.Duplicates.{texts}
+use Rattle.ft_admit.proofs.forms.Lists.{same-self}
 use Rattle.ft_admit.proofs.forms.Lists.{before-once, find-place, find-some, first-or, mapped-some, nothing-in, only, times-is}
 
 abbrev Carded : Type 0
@@ -126,7 +127,7 @@ carded items differ k it name card at has =
     let mine = place-of (cards_of items) (name, card)
     (to-cards items 0 items k it (name, card) at (subst (λ n. Contains (item_cards items n it) (name, card)) start has)) in
     let first = find-some (λ (e : List ℕ × Card). bytes_eq name e.0) (cards_of items) mine.0 (name, card) mine.1
-    ((bytes_eq-Decides name name).1 refl) in
+    (same-self name) in
     let there = find-place (λ (e : List ℕ × Card). bytes_eq name e.0) (cards_of items) first.0 first.1 in
     let called = (bytes_eq-Decides name first.0.0).0 there.2 in
     let a = slice_get-map (λ (e : List ℕ × Card). e.0) (cards_of items) mine.0

@@ -3,7 +3,7 @@ use Rattle.std.proofs.Common.{◌≡◌, ◌∙◌, sym, ap, subst, refl, inl, i
 use Rattle.std.proofs.Common.{nat_le, List, [], ◌∷◌, ◌++◌, length, map, slice_get, Some, bytes_eq, arith}
 use Rattle.std.specs.Prelude.{◌==◌, codes}
 use Rattle.std.specs.List.{Contains, flat_map, list_all}
-use Rattle.std.proofs.lemmas.Bool.{and_from, and_parts, cases_Bool, le-leb, leb-true, or_cases, or_left, or_right, true≢false}
+use Rattle.std.proofs.lemmas.Bool.{and_from, and_parts, le-leb, leb-true, or_cases, or_left, or_right, true≢false}
 use Rattle.std.proofs.lemmas.List.{map-append}
 use Rattle.std.proofs.lemmas.Option.{none-some}
 use Rattle.std.proofs.lemmas.Slice.Eq.{bytes_eq-Decides}
@@ -32,6 +32,7 @@ use Rattle.ft_build.specs.declared.places.Places.{Places}
 use Rattle.ft_build.specs.meaning.Blocks.{build_block, fact_of}
 use Rattle.ft_build.specs.meaning.Tables.{build_memory}
 use Rattle.ft_build.specs.meaning.Variables.{build_var, counted, no_places, value_members, vars_from}
+use Rattle.ft_admit.proofs.forms.Lists.{same-self, times-some}
 use Rattle.ft_admit.proofs.forms.Lists.{all-pass, distinct-by, few-times, first-or, map-flat, nothing-in, only, some-times, term-le, times, total}
 use Rattle.ft_admit.proofs.forms.Lists.{total-append, total-flat, total-le, total-plus}
 use Rattle.ft_admit.proofs.forms.Values.{Fit, value-members}
@@ -64,7 +65,8 @@ lettered (b ∷ rest) begins bytes =
 
 pub set-name : (name : List ℕ) → is_name name ≡ true → is_set_name name ≡ true
 set-name name is =
-    let outer = and_parts (begins_by_letter name && list_all is_name_byte name && nat_le (length name) 40) (not (is_reserved_word name)) is in
+    let outer = and_parts (begins_by_letter name && list_all is_name_byte name && nat_le (length name) 40)
+    (not (is_reserved_word name)) is in
     let inner = and_parts (begins_by_letter name && list_all is_name_byte name) (nat_le (length name) 40) outer.0 in
     let bytes = and_parts (begins_by_letter name) (list_all is_name_byte name) inner.0 in
     let short = leb-true (length name) 40 inner.1 in
@@ -203,7 +205,8 @@ words-named (item.Inverted section target headers rows) lawful = refl
 words-named (item.Vector section columns rows) lawful = refl
 words-named (item.Nat moment cond) lawful = refl
 words-named (item.Block word takes uses facts) lawful =
-    let outer = and_parts (is_word word && are_listed takes && are_listed uses && nat_le 1 (length facts)) (list_all is_fact facts) lawful in
+    let outer = and_parts (is_word word && are_listed takes && are_listed uses && nat_le 1 (length facts))
+    (list_all is_fact facts) lawful in
     let inner = and_parts (is_word word && are_listed takes && are_listed uses) (nat_le 1 (length facts)) outer.0 in
     let front = and_parts (is_word word && are_listed takes) (are_listed uses) inner.0 in
     and_from (is_word word) (list_all is_word (flat_map fact_words facts)) (and_parts (is_word word) (are_listed takes) front.0).0
@@ -214,20 +217,6 @@ texts-named words all name has =
     let at = place-of (texts words) name has in
     let word = mapped (λ (w : Word). w.text) words at.0 name at.1 in
     subst (λ n. is_name n ≡ true) word.2 (all_pass is_word words all word.0 (contained words at.0 word.0 word.1))
-
-times-some : {X : Type 0} (test : X → Bool) (xs : List X) → 1 ≤ times test xs → (k : ℕ) × (x : X) × (slice_get xs k ≡ Some x)
-    × (test x ≡ true)
-times-some test [] some = absurd (omega arith)
-times-some test (x ∷ xs) some = elim (cases_Bool (test x)) [
-  | inl passes ↦ (0, x, refl, passes)
-  | inr fails ↦
-      let nothing : cond {A = ℕ} (test x) 1 0 ≡ 0 = ap (λ b. cond {A = ℕ} b 1 0) fails in
-      let rest = times-some test xs (omega arith) in
-      (suc rest.0, rest.1, rest.2, rest.3)
-]
-
-same-self : (name : List ℕ) → bytes_eq name name ≡ true
-same-self name = (bytes_eq-Decides name name).1 refl
 
 -- truths are no names
 no-truth : (name : List ℕ) → Contains (codes "false" ∷ codes "true" ∷ []) name → is_name name ≡ true → ⊥
@@ -288,7 +277,8 @@ module _ (items : List Item) (env : Env) (all : list_all is_item items ≡ true)
         ap (often name) (map-flat (λ (b : Block). b.name) (build_block env) items)
         ∙ by-items name (λ it. map (λ (b : Block). b.name) (build_block env it))
         ∙ ap (λ (f : Item → Names). total (λ it. often name (f it)) items) (λ i it. block-names env it i) in
-        let s : often name (flat_map (λ (b : Block). flat_map fact_names b.facts) blocks) ≡ total (λ it. often name (shown_texts it)) items =
+        let s : often name (flat_map (λ (b : Block). flat_map fact_names b.facts) blocks)
+        ≡ total (λ it. often name (shown_texts it)) items =
         total-flat (λ x. cond (bytes_eq name x) 1 0) (λ (b : Block). flat_map fact_names b.facts) blocks
         ∙ total-flat (λ (b : Block). often name (flat_map fact_names b.facts)) (build_block env) items
         ∙ ap (λ (f : Item → ℕ). total f items)

@@ -1,12 +1,11 @@
 -- The numbers of a fault-free set: its period, splits and depth, holds and bands, and that some variable is monitored and some controlled.
-use Rattle.std.proofs.Common.{◌≡◌, ◌∙◌, sym, ap, subst, refl, ℕ, ◌≤◌, ℤ, pos, int_le, Bool, true, false, ◌&&◌, List, take, slice_get}
+use Rattle.std.proofs.Common.{◌≡◌, ◌∙◌, sym, ap, subst, refl, ℕ, ◌≤◌, ℤ, pos, int_le, Bool, true, ◌&&◌, List, take, slice_get}
 use Rattle.std.proofs.Common.{Option, Some, None, arith, ◌<ℤ◌, ◌≤ℤ◌}
 use Rattle.std.specs.Prelude.{int_lt}
 use Rattle.std.specs.List.{Contains, flat_map, list_all, list_any}
 use Rattle.std.specs.Option.{option_or}
 use Rattle.std.proofs.lemmas.Bool.{and_parts}
 use Rattle.std.proofs.lemmas.Int.{ints}
-use Rattle.std.proofs.lemmas.Option.{none-some}
 use Rattle.ft_base.specs.Interval.{IsBounded, IsWithin}
 use Rattle.ft_tree.specs.declared.item.Word.{Word}
 use Rattle.ft_tree.specs.declared.item.Bound.{Bound}
@@ -21,7 +20,6 @@ use Rattle.ft_tree.specs.declared.item.Item.TheVariants as item
 use Rattle.ft_tree.specs.meaning.Limits.{is_bound, is_expr, is_item, is_side, is_word}
 use Rattle.ft_core.specs.declared.tables.Memory.TheVariants.{Held, Hyst}
 use Rattle.ft_core.specs.declared.tables.Side.{Side}
-use Rattle.ft_core.specs.declared.tables.VarKind.{VarKind}
 use Rattle.ft_core.specs.declared.term.Cond.{Cond}
 use Rattle.ft_core.specs.declared.term.Term.{Term}
 use Rattle.ft_core.specs.meaning.Kinds.{of_kind, same_kind}
@@ -37,12 +35,13 @@ use Rattle.ft_types.specs.meaning.Ranges.{item_band, item_hold, lies, number_fau
 use Rattle.ft_build.specs.meaning.Sets.{or_default}
 use Rattle.ft_build.specs.meaning.Tables.{build_memory}
 use Rattle.ft_build.specs.meaning.Variables.{no_places, var_kind, vars_from}
+use Rattle.ft_admit.proofs.forms.Lists.{passed}
 use Rattle.ft_admit.proofs.forms.Lists.{no-fault, nothing-in, only, or-none, some-passes, times}
-use Rattle.ft_admit.proofs.forms.Values.{bound-small, bounded, right}
+use Rattle.ft_admit.proofs.forms.Values.{bound-small, bounded}
 use Rattle.ft_admit.proofs.forms.Variables.{declared_var, is-of, var-at}
 
 number-within : (lo hi : ℤ) (n : Number) → number_fault lo hi n ≡ None → IsWithin (lo, hi) (pos n.value)
-number-within lo hi n none = within (lo, hi) (pos n.value) (right (lies lo hi (pos n.value)) _ none)
+number-within lo hi n none = within (lo, hi) (pos n.value) (passed (lies lo hi (pos n.value)) _ none)
 
 at-most : (n most : ℕ) → pos n ≤ℤ pos most → n ≤ most
 at-most n most less = omega (arith, ints)
@@ -88,14 +87,14 @@ held-item : (items : List Item) (env : Env) (it : Item) (name : List ℕ) (s : S
 held-item items env (item.Held side word cond bound) name s c hold has =
     let same = only _ (Held name s c hold) has in
     let is : bound_value items bound ≡ hold = cc in
-    record { bound = bound; is = sym is; fault = right (lies (pos 0) (pos 1000000) (bound_value items bound)) _ }
+    record { bound = bound; is = sym is; fault = passed (lies (pos 0) (pos 1000000) (bound_value items bound)) _ }
 held-item items env (item.Hyst side word term lo hi start) name s c hold has =
     let same = only _ (Held name s c hold) has in
     absurd (cc)
 held-item items env _ name s c hold has = absurd (nothing-in (Held name s c hold) has)
 
-band-lawful : (side : SectionWord) (word : Word) (term : Expr) (lo hi : Bound) (start : Bool) → is_item (item.Hyst side word term lo hi start) ≡ true
-    → (is_bound lo ≡ true) × (is_bound hi ≡ true)
+band-lawful : (side : SectionWord) (word : Word) (term : Expr) (lo hi : Bound) (start : Bool)
+    → is_item (item.Hyst side word term lo hi start) ≡ true → (is_bound lo ≡ true) × (is_bound hi ≡ true)
 band-lawful side word term lo hi start lawful =
     let outer = and_parts (is_side side && is_word word && is_expr term && is_bound lo) (is_bound hi) lawful in
     ((and_parts (is_side side && is_word word && is_expr term) (is_bound lo) outer.0).1, outer.1)
@@ -111,7 +110,7 @@ hyst-item items env (item.Hyst side word term low high begin) name s e lo hi sta
       high = high;
       low_is = sym low_is;
       high_is = sym high_is;
-      fault = right (int_lt (bound_value items low) (bound_value items high)) _;
+      fault = passed (int_lt (bound_value items low) (bound_value items high)) _;
       lawful = band-lawful side word term low high begin;
     }
 hyst-item items env (item.Held side word cond bound) name s e lo hi start has =
@@ -172,10 +171,6 @@ kind-self word.Output = refl
 kind-self word.ReqVar = refl
 kind-self word.SofVar = refl
 
-there-from : (k : VarKind) (b : Bool) → wanted k b ≡ None → b ≡ true
-there-from k true none = refl
-there-from k false none = absurd (none-some _ (sym none))
-
 module _ (items : List Item) (env : Env) where
   some-of : (w : VarWord) (test : Item → Bool) → ((it : Item) → test it ≡ true → IsOfWord w it) → list_any test items ≡ true
       → HasSome (vars_from items env no_places items) (of_kind (var_kind w))
@@ -194,6 +189,6 @@ module _ (items : List Item) (env : Env) where
   has-both none =
       let both = or-none (wanted (var_kind word.Mon) (list_any declares_monitored items))
       (wanted (var_kind word.Con) (list_any declares_controlled items)) none in (
-        some-of word.Mon declares_monitored monitored-item (there-from (var_kind word.Mon) _ both.0),
-        some-of word.Con declares_controlled controlled-item (there-from (var_kind word.Con) _ both.1),
+        some-of word.Mon declares_monitored monitored-item (passed (list_any declares_monitored items) _ both.0),
+        some-of word.Con declares_controlled controlled-item (passed (list_any declares_controlled items) _ both.1),
       )

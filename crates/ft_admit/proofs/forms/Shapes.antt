@@ -23,8 +23,8 @@ use Rattle.ft_build.specs.meaning.Conditions.{cond_of}
 use Rattle.ft_build.specs.meaning.Tables.{build_table, head_of, inverted_grid, normal_grid, row_conds, row_target, row_terms}
 use Rattle.ft_build.specs.meaning.Tables.{table_of, vector_grid, vector_terms}
 use Rattle.ft_build.specs.meaning.Terms.{term_of}
+use Rattle.ft_admit.proofs.forms.Lists.{passed}
 use Rattle.ft_admit.proofs.forms.Lists.{all-pass, no-fault, nothing-in, only}
-use Rattle.ft_admit.proofs.forms.Values.{right}
 
 as-wide : {R X : Type 0} (build : R → List X) (rows : List R) (wide : ℕ) → ((row : R) → Contains rows row → length (build row) ≡ wide)
     → (built : List X) → Contains (map build rows) built → (length built == wide) ≡ true
@@ -54,7 +54,8 @@ rows-wide : {X : Type 0} (s : SectionWord) (target : List ℕ) (build : Expr →
     → first_of (row_fault s target columns) rows ≡ None → (row : Row) → Contains rows row → length (map build row.entries) ≡ wide
 rows-wide s target build rows columns wide same none row has =
     length-map row.entries build
-    ∙ eqb-true (length row.entries) columns (right (length row.entries == columns) _ (no-fault (row_fault s target columns) rows none row has))
+    ∙ eqb-true (length row.entries) columns
+    (passed (length row.entries == columns) _ (no-fault (row_fault s target columns) rows none row has))
     ∙ sym same
 
 vector-wide : {X : Type 0} (s : SectionWord) (target : List ℕ) (build : Expr → X) (rows : List VRow) (columns wide : ℕ) → wide ≡ columns
@@ -62,7 +63,7 @@ vector-wide : {X : Type 0} (s : SectionWord) (target : List ℕ) (build : Expr �
 vector-wide s target build rows columns wide same none row has =
     length-map row.entries build
     ∙ eqb-true (length row.entries) columns
-    (right (length row.entries == columns) _ (no-fault (vector_row_fault s target columns) rows none row has))
+    (passed (length row.entries == columns) _ (no-fault (vector_row_fault s target columns) rows none row has))
     ∙ sym same
 
 shaped-item : (env : Env) (it : Item) → is_item it ≡ true → item_shape it ≡ None → (table : Table) → Contains (build_table env it) table

@@ -32,9 +32,9 @@ use Rattle.ft_types.specs.meaning.Targets.{item_targets, lack}
 use Rattle.ft_build.specs.meaning.Tables.{build_table, inverted_grid, normal_grid, place_in, row_target}
 use Rattle.ft_build.specs.meaning.Tables.{section_of, table_of, vector_grid}
 use Rattle.ft_build.specs.meaning.Variables.{var_kind}
+use Rattle.ft_admit.proofs.forms.Lists.{passed}
 use Rattle.ft_admit.proofs.forms.Lists.{any-passes, nothing-in, only, or-none, some-passes}
 use Rattle.ft_admit.proofs.forms.Targets.{map-there}
-use Rattle.ft_admit.proofs.forms.Values.{right}
 
 -- a table that an item spells defines what its targets stand for
 
@@ -164,20 +164,20 @@ pub record HasTarget (defined : List Target) (at_section : Section) (name : List
   pub is : section_of word ≡ at_section
   pub there : is_defined defined word name ≡ true
 
-pub lack-none : (defined : List Target) (s : Section) (w : VarWord) (name : Word) (of : Kind) (init : Bound) → has_kind s (var_kind w) ≡ true
-    → item_lack defined (item.Variable w name of init) ≡ None → HasTarget defined s name.text
+pub lack-none : (defined : List Target) (s : Section) (w : VarWord) (name : Word) (of : Kind) (init : Bound)
+    → has_kind s (var_kind w) ≡ true → item_lack defined (item.Variable w name of init) ≡ None → HasTarget defined s name.text
 lack-none defined core.In word.Input name of init has none =
-    record { word = section.In; is = refl; there = right (is_defined defined section.In name.text) _ none }
+    record { word = section.In; is = refl; there = passed (is_defined defined section.In name.text) _ none }
 lack-none defined core.Req word.Con name of init has none =
     let both = or-none (lack defined section.Req name) (lack defined section.Out name) none in
-    record { word = section.Req; is = refl; there = right (is_defined defined section.Req name.text) _ both.0 }
+    record { word = section.Req; is = refl; there = passed (is_defined defined section.Req name.text) _ both.0 }
 lack-none defined core.Req word.ReqVar name of init has none =
-    record { word = section.Req; is = refl; there = right (is_defined defined section.Req name.text) _ none }
+    record { word = section.Req; is = refl; there = passed (is_defined defined section.Req name.text) _ none }
 lack-none defined core.Sof word.Output name of init has none =
-    record { word = section.Sof; is = refl; there = right (is_defined defined section.Sof name.text) _ none }
+    record { word = section.Sof; is = refl; there = passed (is_defined defined section.Sof name.text) _ none }
 lack-none defined core.Sof word.SofVar name of init has none =
-    record { word = section.Sof; is = refl; there = right (is_defined defined section.Sof name.text) _ none }
+    record { word = section.Sof; is = refl; there = passed (is_defined defined section.Sof name.text) _ none }
 lack-none defined core.Out word.Con name of init has none =
     let both = or-none (lack defined section.Req name) (lack defined section.Out name) none in
-    record { word = section.Out; is = refl; there = right (is_defined defined section.Out name.text) _ both.1 }
+    record { word = section.Out; is = refl; there = passed (is_defined defined section.Out name.text) _ both.1 }
 lack-none defined s w name of init has none = absurd (true≢false (sym has))

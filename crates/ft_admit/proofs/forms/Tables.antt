@@ -1,10 +1,9 @@
 -- One table for each variable in each section, and no target twice.
 use Rattle.std.proofs.Common.{◌≡◌, ◌∙◌, sym, ap, subst, refl, inl, inr, ℕ, ◌≤◌, Bool, true, false, ◌&&◌, cond}
 use Rattle.std.proofs.Common.{List, [], ◌∷◌, ◌++◌, map, take, slice_get, Some, None, bytes_eq, append-nil, append_assoc, arith}
-use Rattle.std.specs.Prelude.{◌==◌, if◌then◌else◌}
+use Rattle.std.specs.Prelude.{◌==◌}
 use Rattle.std.specs.List.{Contains, flat_map, list_any}
 use Rattle.std.proofs.lemmas.Bool.{and_from, and_parts, cases_Bool, eq-eqb, eqb-true}
-use Rattle.std.proofs.lemmas.Option.{none-some}
 use Rattle.std.proofs.lemmas.Slice.Eq.{bytes_eq-Decides}
 use Rattle.ft_tree.specs.declared.item.VRow.{VRow}
 use Rattle.ft_tree.specs.declared.item.SectionWord.{SectionWord}
@@ -26,7 +25,6 @@ use Rattle.ft_names.specs.declared.card.Card.TheVariants as card
 use Rattle.ft_names.specs.meaning.Cards.{Env, count_before, declares_variable, env_of, item_cards, kind_values}
 use Rattle.ft_names.specs.meaning.Declared.{listing, names_in}
 use Rattle.ft_names.specs.meaning.First.{first_of}
-use Rattle.ft_types.specs.declared.fault.TypeFault.{TypeFault}
 use Rattle.ft_types.specs.meaning.PlaceFaults.{first_mismatch, first_wrong_side}
 use Rattle.ft_types.specs.meaning.Sides.{same_section_word}
 use Rattle.ft_types.specs.meaning.Targets.{Target, first_lack, first_table_fault, first_twice, in_turn, is_defined, is_target, item_lack}
@@ -34,6 +32,7 @@ use Rattle.ft_types.specs.meaning.Targets.{item_targets, targets, twice}
 use Rattle.ft_build.specs.meaning.Tables.{build_table, inverted_grid, normal_grid, place_in, row_target}
 use Rattle.ft_build.specs.meaning.Tables.{section_of, table_of, variable_place, vector_grid}
 use Rattle.ft_build.specs.meaning.Variables.{no_places, var_kind, vars_from}
+use Rattle.ft_admit.proofs.forms.Lists.{failed, same-self}
 use Rattle.ft_admit.proofs.forms.Lists.{any-passes, few-times, no-fault, nothing-in, one-more, one-place, only, or-none, some-passes}
 use Rattle.ft_admit.proofs.forms.Lists.{some-times, term-le, times, times-is, total-flat, total-le, total-map}
 use Rattle.ft_admit.proofs.forms.Lookups.{carded, one-variable}
@@ -61,14 +60,10 @@ key-agrees key t is =
     λ i. (s i, n i)
 
 key-self : (t : Target) → keyed (key_of t) t ≡ true
-key-self t = and_from (same_section_word t.0 t.0) (bytes_eq t.1.text t.1.text) (word-self t.0) ((bytes_eq-Decides t.1.text t.1.text).1 refl)
-
-no-fault-unless : (b : Bool) (fault : TypeFault) → (if b then Some fault else None) ≡ None → b ≡ false
-no-fault-unless true fault none = absurd (none-some fault (sym none))
-no-fault-unless false fault none = refl
+key-self t = and_from (same_section_word t.0 t.0) (bytes_eq t.1.text t.1.text) (word-self t.0) (same-self t.1.text)
 
 not-defined : (before : List Target) (t : Target) → twice (before, t) ≡ None → list_any (keyed (key_of t)) before ≡ false
-not-defined before t none = no-fault-unless (is_defined before t.0 t.1.text) _ none
+not-defined before t none = failed (is_defined before t.0 t.1.text) _ none
 
 turns-once : (before more : List Target) → ((key : Key) → times (keyed key) before ≤ 1) → first_of twice (in_turn before more) ≡ None
     → (key : Key) → times (keyed key) (before ++ more) ≤ 1
@@ -106,7 +101,8 @@ vector-times env s w x rows =
           omega arith
     ]
 
-item-times : (env : Env) (s : Section) (x : ℕ) (it : Item) → times (is_for s x) (build_table env it) ≤ times (aims env s x) (item_targets it)
+item-times : (env : Env) (s : Section) (x : ℕ) (it : Item)
+    → times (is_for s x) (build_table env it) ≤ times (aims env s x) (item_targets it)
 item-times env s x (item.Normal w target columns rows) = omega arith
 item-times env s x (item.Inverted w target headers rows) = omega arith
 item-times env s x (item.Vector w columns rows) = let row = vector-times env s w x rows in omega arith
@@ -133,8 +129,8 @@ vector-item env (item.Vector w headers rows) table columns places terms has is x
     let grid = ap (λ (t : Table). t.grid) same ∙ is in
     let made : map (row_target env) rows ≡ places = cc in
     subst (λ (l : List ℕ). times (λ y. y == x) l ≤ times (aims env table.section x) (item_targets (item.Vector w headers rows))) made
-    (subst (λ (t : Table). times (λ y. y == x) (map (row_target env) rows) ≤ times (aims env t.section x) (item_targets (item.Vector w headers rows)))
-    same (rows-times env w x rows))
+    (subst (λ (t : Table). times (λ y. y == x) (map (row_target env) rows)
+    ≤ times (aims env t.section x) (item_targets (item.Vector w headers rows))) same (rows-times env w x rows))
 vector-item env (item.Normal w target headers rows) table columns places terms has is x =
     let same = only (table_of w (normal_grid env target.text headers rows)) table has in
     let grid = ap (λ (t : Table). t.grid) same ∙ is in
@@ -256,8 +252,8 @@ module _ (items : List Item) (sides : first_wrong_side items ≡ None) (kinds : 
         let few = aimed-once s x in
         let made = total-flat (λ t. cond {A = ℕ} (is_for s x t) 1 0) (build_table (env_of items)) items in
         let aimed = total-flat (λ t. cond {A = ℕ} (aims (env_of items) s x t) 1 0) item_targets items in
-        let each = total-le (λ it. times (is_for s x) (build_table (env_of items) it)) (λ it. times (aims (env_of items) s x) (item_targets it))
-        items (item-times (env_of items) s x) in
+        let each = total-le (λ it. times (is_for s x) (build_table (env_of items) it))
+        (λ it. times (aims (env_of items) s x) (item_targets it)) items (item-times (env_of items) s x) in
         let once : times (is_for s x) (tables items) ≤ 1 = omega arith in
         one-place (is_for s x) (tables items) once k l a b at_k at_l p q
 

@@ -1,11 +1,10 @@
 -- What stands at the places of a fault-free tree: names that are used stand for what they may.
-use Rattle.std.proofs.Common.{◌≡◌, ◌∙◌, sym, ap, subst, refl, ℕ, Bool, true, false, ◌||◌, List, map, take}
+use Rattle.std.proofs.Common.{◌≡◌, ◌∙◌, sym, ap, subst, refl, ℕ, true, ◌||◌, List, map, take}
 use Rattle.std.proofs.Common.{slice_get, Option, Some, None, option_map}
 use Rattle.std.specs.List.{Contains, flat_map}
 use Rattle.std.proofs.lemmas.Bool.{true≢false}
 use Rattle.std.proofs.lemmas.List.Elements.{Contains-append_right}
-use Rattle.std.proofs.lemmas.Option.{none-some, slice_get-map}
-use Rattle.ft_base.specs.declared.place.Place.{Place}
+use Rattle.std.proofs.lemmas.Option.{slice_get-map}
 use Rattle.ft_tree.specs.declared.item.Word.{Word}
 use Rattle.ft_tree.specs.declared.item.VRow.{VRow}
 use Rattle.ft_tree.specs.declared.item.VarWord.{VarWord}
@@ -26,13 +25,14 @@ use Rattle.ft_names.specs.declared.walk.Role.{Role}
 use Rattle.ft_names.specs.declared.walk.Role.TheVariants as role
 use Rattle.ft_names.specs.meaning.Cards.{declares_variable, env_of}
 use Rattle.ft_names.specs.meaning.Spots.{conditions, item_spots, named, section_site, spots, vector_row}
-use Rattle.ft_types.specs.meaning.Mismatch.{fits, is_variable, mismatch_at}
+use Rattle.ft_types.specs.meaning.Mismatch.{fits, is_variable}
 use Rattle.ft_types.specs.meaning.PlaceFaults.{first_mismatch, first_wrong_side}
 use Rattle.ft_types.specs.meaning.Mismatch.{mismatch_spot}
-use Rattle.ft_types.specs.meaning.Sides.{defines, may_define, may_use, side_spot, wrong_name}
+use Rattle.ft_types.specs.meaning.Sides.{defines, may_define, may_use, side_spot}
 use Rattle.ft_types.specs.meaning.Targets.{Target, item_targets}
 use Rattle.ft_build.specs.meaning.Tables.{section_of}
 use Rattle.ft_build.specs.meaning.Variables.{no_places, var_kind, vars_from}
+use Rattle.ft_admit.proofs.forms.Lists.{passed}
 use Rattle.ft_admit.proofs.forms.Lists.{no-fault, nothing-in, only, times, times-is}
 use Rattle.ft_admit.proofs.forms.Lookups.{variable-of}
 use Rattle.ft_admit.proofs.forms.Variables.{declared_var, var-at}
@@ -40,23 +40,15 @@ use Rattle.ft_admit.proofs.forms.Variables.{declared_var, var-at}
 pub map-there : {X Y : Type 0} (f : X → Y) (xs : List X) (k : ℕ) (x : X) → slice_get xs k ≡ Some x → Contains (map f xs) (f x)
 map-there f xs k x at = contained (map f xs) k (f x) (slice_get-map f xs k ∙ ap (option_map f) at)
 
-allowed : (name : List ℕ) (place : Place) (b : Bool) → wrong_name name place b ≡ None → b ≡ true
-allowed name place true none = refl
-allowed name place false none = absurd (none-some _ (sym none))
-
-pub matched : (place : Place) (b : Bool) → mismatch_at place b ≡ None → b ≡ true
-matched place true none = refl
-matched place false none = absurd (none-some _ (sym none))
-
 -- a name that is used is so as it may be
 pub used : (items : List Item) → first_wrong_side items ≡ None → first_mismatch items ≡ None → (k : ℕ) (it : Item)
     → slice_get items k ≡ Some it → (r : Role) (w : Word) → Contains (item_spots it) (named r w)
     → (may_use r (env_of items w.text) ≡ true) × (fits r (env_of items w.text) ≡ true)
 used items sides kinds k it at r w has =
     let there = in_all item_spots items k it (named r w) at has in (
-      allowed w.text w.place (may_use r (env_of items w.text))
+      passed (may_use r (env_of items w.text)) _
           (no-fault (side_spot (env_of items)) (spots items) sides (named r w) there),
-      matched w.place (fits r (env_of items w.text)) (no-fault (mismatch_spot (env_of items)) (spots items) kinds (named r w) there),
+      passed (fits r (env_of items w.text)) _ (no-fault (mismatch_spot (env_of items)) (spots items) kinds (named r w) there),
     )
 
 -- the target of a table is a place of its item

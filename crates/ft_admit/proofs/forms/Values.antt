@@ -7,7 +7,7 @@ use Rattle.std.proofs.lemmas.Bool.{and_from, and_parts, cases_Bool, cond-false, 
 use Rattle.std.proofs.lemmas.Bool.Decides.{Decides-eqb}
 use Rattle.std.proofs.lemmas.Int.{ints}
 use Rattle.std.proofs.lemmas.List.{length-map}
-use Rattle.std.proofs.lemmas.Option.{none-some, same_Some}
+use Rattle.std.proofs.lemmas.Option.{same_Some}
 use Rattle.std.proofs.lemmas.Slice.Eq.{bytes_eq-Decides}
 use Rattle.ft_base.specs.Interval.{IsBounded, IsWithin}
 use Rattle.ft_tree.specs.declared.item.Word.{Word}
@@ -34,18 +34,13 @@ use Rattle.ft_names.specs.meaning.Cards.{bound_value, constant_value, declared_v
 use Rattle.ft_names.specs.meaning.Cards.{number_of, plain_value, signed, values_at}
 use Rattle.ft_names.specs.meaning.Declared.{listing, names_in}
 use Rattle.ft_names.specs.meaning.First.{first_of}
-use Rattle.ft_types.specs.declared.fault.TypeFault.{TypeFault}
 use Rattle.ft_types.specs.meaning.Mismatch.{is_member_name, is_member_of, is_value_of, named_values, type_kind, values_kind}
-use Rattle.ft_types.specs.meaning.Ranges.{init_fault, item_range, kind_fault, lies, range_fault, unless}
+use Rattle.ft_types.specs.meaning.Ranges.{init_fault, item_range, kind_fault, lies, range_fault}
 use Rattle.ft_build.specs.meaning.Variables.{init_value, is_range, member_names, named_position, position_of, ranged, truth_position}
 use Rattle.ft_build.specs.meaning.Variables.{value_members, values_range}
+use Rattle.ft_admit.proofs.forms.Lists.{passed}
 use Rattle.ft_admit.proofs.forms.Lists.{no-fault, or-none}
 use Rattle.ft_admit.proofs.forms.Lookups.{carded, member-of}
-
--- a test that gives no fault is passed
-pub right : (b : Bool) (fault : TypeFault) → unless b fault ≡ None → b ≡ true
-right true fault none = refl
-right false fault none = absurd (none-some fault (sym none))
 
 -- bounds are small
 
@@ -128,7 +123,7 @@ range-fits : (items : List Item) → list_all is_item items ≡ true → (lo hi 
     → range_fault items lo hi ≡ None → is_range (bound_value items lo) (bound_value items hi) ≡ true
 range-fits items all lo hi a b none =
     range-from (bound_value items lo) (bound_value items hi)
-    (right (int_le (bound_value items lo) (bound_value items hi)) _ none) (bound-small items all lo a) (bound-small items all hi b)
+    (passed (int_le (bound_value items lo) (bound_value items hi)) _ none) (bound-small items all lo a) (bound-small items all hi b)
 
 module _ (items : List Item) (all : list_all is_item items ≡ true) (ranges : first_of (item_range items) items ≡ None) where
   lawful-at : (k : ℕ) (it : Item) → slice_get items k ≡ Some it → is_item it ≡ true
@@ -277,7 +272,7 @@ module _ (items : List Item) (differ : AreDistinct (names_in (listing 0 items)))
       → IsWithin (values_range values) (init_value items (env_of items) values init)
   init-within of init (Numbers lo hi) is fit none value =
       subst (λ r. IsWithin r (bound_value items init)) (sym (cond-true (is_range lo hi) (lo, hi) (pos 0, pos 0) fit))
-      (within (lo, hi) (bound_value items init) (right (lies lo hi (bound_value items init)) _ none))
+      (within (lo, hi) (bound_value items init) (passed (lies lo hi (bound_value items init)) _ none))
   init-within of init Truths is fit none value = truth-within init.value
   init-within of init (Members k count) is fit none value =
       let asked : is_value_of (env_of items) (expr_kind.Members k) init ≡ true =

@@ -1,5 +1,6 @@
 -- A tree without a fault spells a set of lawful form.
-use Rattle.std.proofs.Common.{◌≡◌, sym, ap, subst, refl, ℕ, ◌-◌, ◌≤◌, ◌<◌, true, List, [], ◌∷◌, length, slice_get, Option, Some, None, arith}
+use Rattle.std.proofs.Common.{◌≡◌, sym, ap, subst, refl, ℕ, ◌-◌, ◌≤◌, ◌<◌, true, List, [], ◌∷◌, length, slice_get, Option, Some, None}
+use Rattle.std.proofs.Common.{arith}
 use Rattle.std.specs.Prelude.{pos}
 use Rattle.std.specs.List.{list_all}
 use Rattle.std.specs.Option.{option_or}
@@ -29,12 +30,12 @@ use Rattle.ft_admit.specs.laws.FormFacts.{FormIsLawful, HasLawfulForm}
 use Rattle.ft_admit.specs.meaning.Faultless.{IsFaultless}
 use Rattle.ft_admit.proofs.forms.Blocks.{goals-right, some-fact, takes-differ, takes-right}
 use Rattle.ft_admit.proofs.forms.Counts.{few-blocks, few-clauses, few-facts, few-memories, few-tables, few-vars}
+use Rattle.ft_admit.proofs.forms.Lists.{passed}
 use Rattle.ft_admit.proofs.forms.Lists.{no-fault, or-none}
 use Rattle.ft_admit.proofs.forms.Names.{names-lawful}
 use Rattle.ft_admit.proofs.forms.Numbers.{bands, has-both, holds, numbers-within}
 use Rattle.ft_admit.proofs.forms.Shapes.{shaped}
 use Rattle.ft_admit.proofs.forms.Tables.{has-table, one-table, targets-differ, targets-right}
-use Rattle.ft_admit.proofs.forms.Targets.{matched}
 use Rattle.ft_admit.proofs.forms.Values.{Fit, enum-range, few-members, init-within, range-bounded, values-fit}
 use Rattle.ft_admit.proofs.forms.Variables.{IsDeclared, placed, var-from}
 
@@ -71,7 +72,7 @@ module _ (name : List ℕ) (period : Number) (splits depth : Option Number) (ite
         let it : Item = item.Variable d.word d.name d.of d.init in
         let last = Contains-append_right (kind_spots d.of) (initial d.of d.init ∷ []) (initial d.of d.init)
         (contained (initial d.of d.init ∷ []) 0 (initial d.of d.init) refl) in
-        matched d.init.place (is_value_of env (type_kind env d.of) d.init)
+        passed (is_value_of env (type_kind env d.of) d.init) _
         (no-fault (mismatch_spot env) (spots items) fine.kinds (initial d.of d.init)
         (in_all item_spots items d.number it (initial d.of d.init) d.at last))
 
