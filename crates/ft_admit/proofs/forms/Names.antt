@@ -20,7 +20,8 @@ use Rattle.ft_core.specs.declared.tables.Var.{Var}
 use Rattle.ft_core.specs.declared.tables.Memory.{Memory}
 use Rattle.ft_core.specs.declared.tables.Block.{Block}
 use Rattle.ft_core.specs.checked.Distinct.{AreDistinct}
-use Rattle.ft_core.specs.checked.Names.{AreNamed, declared_names, fact_names, is_lettered, is_mark, is_set_name, is_set_name_byte, memory_name}
+use Rattle.ft_core.specs.checked.Names.{AreNamed, declared_names, fact_names, is_lettered, is_mark, is_set_name, is_set_name_byte}
+use Rattle.ft_core.specs.checked.Names.{memory_name}
 use Rattle.ft_core.specs.laws.Lists.{all_pass, from_one, mapped}
 use Rattle.ft_core.specs.laws.Places.{contained, place-of}
 use Rattle.ft_names.specs.declared.card.Values.{Values}
@@ -33,7 +34,8 @@ use Rattle.ft_build.specs.meaning.Blocks.{build_block, fact_of}
 use Rattle.ft_build.specs.meaning.Tables.{build_memory}
 use Rattle.ft_build.specs.meaning.Variables.{build_var, counted, no_places, value_members, vars_from}
 use Rattle.ft_admit.proofs.forms.Lists.{same-self, times-some}
-use Rattle.ft_admit.proofs.forms.Lists.{all-pass, distinct-by, few-times, first-or, map-flat, nothing-in, only, some-times, term-le, times, total}
+use Rattle.ft_admit.proofs.forms.Lists.{all-pass, distinct-by, few-times, first-or, map-flat, nothing-in, only, some-times, term-le, times}
+use Rattle.ft_admit.proofs.forms.Lists.{total}
 use Rattle.ft_admit.proofs.forms.Lists.{total-append, total-flat, total-le, total-plus}
 use Rattle.ft_admit.proofs.forms.Values.{Fit, value-members}
 
