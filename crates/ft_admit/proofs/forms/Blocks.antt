@@ -46,8 +46,7 @@ use Rattle.ft_build.specs.meaning.Blocks.{block_of, build_block, card_take, fact
 use Rattle.ft_build.specs.meaning.Tables.{build_memory, place_in, variable_place}
 use Rattle.ft_build.specs.meaning.Variables.{no_places, var_kind, vars_from}
 use Rattle.ft_admit.proofs.forms.Counts.{memories-length}
-use Rattle.ft_admit.proofs.forms.Lists.{failed, same-self}
-use Rattle.ft_admit.proofs.forms.Lists.{before-less, nothing-in, one-more, one-place, only, or-none, times, times-is}
+use Rattle.ft_admit.proofs.forms.Lists.{before-less, failed, nothing-in, one-more, one-place, only, or-none, same-self, times, times-is}
 use Rattle.ft_admit.proofs.forms.Lookups.{memory-of, one-memory, one-variable}
 use Rattle.ft_admit.proofs.forms.Targets.{map-there, used, var-here}
 use Rattle.ft_admit.proofs.forms.Variables.{is-of}

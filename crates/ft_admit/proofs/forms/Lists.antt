@@ -1,13 +1,13 @@
 -- Totals and counts over lists, places at which at most one element passes a test, and what stands in lists that are joined.
-use Rattle.std.proofs.Common.{bytes_eq}
 use Rattle.std.proofs.Common.{◌≡◌, ◌∙◌, sym, ap, refl, ◌⊎◌, inl, inr, ℕ, zero, suc, ◌+◌, ◌≤◌, ◌<◌, Bool, true, false, cond}
-use Rattle.std.proofs.Common.{◌||◌, List, [], ◌∷◌, ◌++◌, length, map, take, slice_get, Option, Some, None, arith}
+use Rattle.std.proofs.Common.{◌||◌, List, [], ◌∷◌, ◌++◌, length, map, take, slice_get, Option, Some, None, bytes_eq, arith}
 use Rattle.std.specs.Prelude.{if◌then◌else◌, sum_by, count_by, find, option_map}
 use Rattle.std.specs.List.{Contains, flat_map, list_all, list_any}
 use Rattle.std.specs.Option.{option_or}
 use Rattle.std.proofs.Math.Nat.{not-suc-le-zero, le_of_suc-le-suc, suc-ne-zero}
 use Rattle.std.proofs.lemmas.Bool.{and_from, cases_Bool, or_left, or_right, true≢false}
 use Rattle.std.proofs.lemmas.List.{map-append}
+use Rattle.std.proofs.lemmas.List.Concat.{length-flat_map}
 use Rattle.std.proofs.lemmas.List.Sums.{sum_by-cons}
 use Rattle.std.proofs.lemmas.Option.{none-some, same_Some}
 use Rattle.std.proofs.lemmas.Slice.Eq.{bytes_eq-Decides}
@@ -69,13 +69,8 @@ term-le f (y ∷ xs) zero x at =
     omega arith
 term-le f (y ∷ xs) (suc k) x at = let rest = term-le f xs k x at in omega arith
 
-append-length : {Y : Type 0} (vs ws : List Y) → length (vs ++ ws) ≡ length vs + length ws
-append-length [] ws = omega arith
-append-length (v ∷ vs) ws = let rest = append-length vs ws in omega arith
-
 pub length-flat : {X Y : Type 0} (g : X → List Y) (xs : List X) → length (flat_map g xs) ≡ total (λ x. length (g x)) xs
-length-flat g [] = refl
-length-flat g (x ∷ xs) = append-length (g x) (flat_map g xs) ∙ ap (λ n. length (g x) + n) (length-flat g xs)
+length-flat g xs = length-flat_map g xs ∙ sym (total-is (λ x. length (g x)) xs)
 
 -- counts
 

@@ -26,8 +26,7 @@ use Rattle.ft_names.specs.meaning.Cards.{cards_from, cards_of, count_before, dec
 use Rattle.ft_names.specs.meaning.Cards.{fact_cards, item_cards, kind_values, member_card}
 use Rattle.ft_names.specs.meaning.Declared.{entries, fact_words, item_words, listing, names_in}
 use Rattle.ft_names.specs.meaning.Duplicates.{texts}
-use Rattle.ft_admit.proofs.forms.Lists.{same-self}
-use Rattle.ft_admit.proofs.forms.Lists.{before-once, find-place, find-some, first-or, mapped-some, nothing-in, only, times-is}
+use Rattle.ft_admit.proofs.forms.Lists.{before-once, find-place, find-some, first-or, mapped-some, nothing-in, only, same-self, times-is}
 
 abbrev Carded : Type 0
 Carded = List (List ℕ × Card)

@@ -33,10 +33,8 @@ use Rattle.ft_build.specs.declared.places.Places.{Places}
 use Rattle.ft_build.specs.meaning.Blocks.{build_block, fact_of}
 use Rattle.ft_build.specs.meaning.Tables.{build_memory}
 use Rattle.ft_build.specs.meaning.Variables.{build_var, counted, no_places, value_members, vars_from}
-use Rattle.ft_admit.proofs.forms.Lists.{same-self, times-some}
-use Rattle.ft_admit.proofs.forms.Lists.{all-pass, distinct-by, few-times, first-or, map-flat, nothing-in, only, some-times, term-le, times}
-use Rattle.ft_admit.proofs.forms.Lists.{total}
-use Rattle.ft_admit.proofs.forms.Lists.{total-append, total-flat, total-le, total-plus}
+use Rattle.ft_admit.proofs.forms.Lists.{all-pass, distinct-by, few-times, first-or, map-flat, nothing-in, only, same-self, some-times}
+use Rattle.ft_admit.proofs.forms.Lists.{term-le, times, times-some, total, total-append, total-flat, total-le, total-plus}
 use Rattle.ft_admit.proofs.forms.Values.{Fit, value-members}
 
 abbrev Names : Type 0

@@ -35,8 +35,7 @@ use Rattle.ft_types.specs.meaning.Ranges.{item_band, item_hold, lies, number_fau
 use Rattle.ft_build.specs.meaning.Sets.{or_default}
 use Rattle.ft_build.specs.meaning.Tables.{build_memory}
 use Rattle.ft_build.specs.meaning.Variables.{no_places, var_kind, vars_from}
-use Rattle.ft_admit.proofs.forms.Lists.{passed}
-use Rattle.ft_admit.proofs.forms.Lists.{no-fault, nothing-in, only, or-none, some-passes, times}
+use Rattle.ft_admit.proofs.forms.Lists.{no-fault, nothing-in, only, or-none, passed, some-passes, times}
 use Rattle.ft_admit.proofs.forms.Values.{bound-small, bounded}
 use Rattle.ft_admit.proofs.forms.Variables.{declared_var, is-of, var-at}
 

@@ -23,8 +23,7 @@ use Rattle.ft_build.specs.meaning.Conditions.{cond_of}
 use Rattle.ft_build.specs.meaning.Tables.{build_table, head_of, inverted_grid, normal_grid, row_conds, row_target, row_terms}
 use Rattle.ft_build.specs.meaning.Tables.{table_of, vector_grid, vector_terms}
 use Rattle.ft_build.specs.meaning.Terms.{term_of}
-use Rattle.ft_admit.proofs.forms.Lists.{passed}
-use Rattle.ft_admit.proofs.forms.Lists.{all-pass, no-fault, nothing-in, only}
+use Rattle.ft_admit.proofs.forms.Lists.{all-pass, no-fault, nothing-in, only, passed}
 
 as-wide : {R X : Type 0} (build : R → List X) (rows : List R) (wide : ℕ) → ((row : R) → Contains rows row → length (build row) ≡ wide)
     → (built : List X) → Contains (map build rows) built → (length built == wide) ≡ true

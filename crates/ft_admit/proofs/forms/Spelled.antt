@@ -32,8 +32,7 @@ use Rattle.ft_types.specs.meaning.Targets.{item_targets, lack}
 use Rattle.ft_build.specs.meaning.Tables.{build_table, inverted_grid, normal_grid, place_in, row_target}
 use Rattle.ft_build.specs.meaning.Tables.{section_of, table_of, vector_grid}
 use Rattle.ft_build.specs.meaning.Variables.{var_kind}
-use Rattle.ft_admit.proofs.forms.Lists.{passed}
-use Rattle.ft_admit.proofs.forms.Lists.{any-passes, nothing-in, only, or-none, some-passes}
+use Rattle.ft_admit.proofs.forms.Lists.{any-passes, nothing-in, only, or-none, passed, some-passes}
 use Rattle.ft_admit.proofs.forms.Targets.{map-there}
 
 -- a table that an item spells defines what its targets stand for

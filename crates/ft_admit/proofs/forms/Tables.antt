@@ -32,9 +32,8 @@ use Rattle.ft_types.specs.meaning.Targets.{item_targets, targets, twice}
 use Rattle.ft_build.specs.meaning.Tables.{build_table, inverted_grid, normal_grid, place_in, row_target}
 use Rattle.ft_build.specs.meaning.Tables.{section_of, table_of, variable_place, vector_grid}
 use Rattle.ft_build.specs.meaning.Variables.{no_places, var_kind, vars_from}
-use Rattle.ft_admit.proofs.forms.Lists.{failed, same-self}
-use Rattle.ft_admit.proofs.forms.Lists.{any-passes, few-times, no-fault, nothing-in, one-more, one-place, only, or-none, some-passes}
-use Rattle.ft_admit.proofs.forms.Lists.{some-times, term-le, times, times-is, total-flat, total-le, total-map}
+use Rattle.ft_admit.proofs.forms.Lists.{any-passes, failed, few-times, no-fault, nothing-in, one-more, one-place, only, or-none}
+use Rattle.ft_admit.proofs.forms.Lists.{same-self, some-passes, some-times, term-le, times, times-is, total-flat, total-le, total-map}
 use Rattle.ft_admit.proofs.forms.Lookups.{carded, one-variable}
 use Rattle.ft_admit.proofs.forms.Targets.{IsTarget, defined-kind, map-there, target-is, var-here}
 use Rattle.ft_admit.proofs.forms.Variables.{IsDeclared, is-of, of-is, var-from}

@@ -32,8 +32,7 @@ use Rattle.ft_types.specs.meaning.Sides.{defines, may_define, may_use, side_spot
 use Rattle.ft_types.specs.meaning.Targets.{Target, item_targets}
 use Rattle.ft_build.specs.meaning.Tables.{section_of}
 use Rattle.ft_build.specs.meaning.Variables.{no_places, var_kind, vars_from}
-use Rattle.ft_admit.proofs.forms.Lists.{passed}
-use Rattle.ft_admit.proofs.forms.Lists.{no-fault, nothing-in, only, times, times-is}
+use Rattle.ft_admit.proofs.forms.Lists.{no-fault, nothing-in, only, passed, times, times-is}
 use Rattle.ft_admit.proofs.forms.Lookups.{variable-of}
 use Rattle.ft_admit.proofs.forms.Variables.{declared_var, var-at}
 

@@ -38,8 +38,7 @@ use Rattle.ft_types.specs.meaning.Mismatch.{is_member_name, is_member_of, is_val
 use Rattle.ft_types.specs.meaning.Ranges.{init_fault, item_range, kind_fault, lies, range_fault}
 use Rattle.ft_build.specs.meaning.Variables.{init_value, is_range, member_names, named_position, position_of, ranged, truth_position}
 use Rattle.ft_build.specs.meaning.Variables.{value_members, values_range}
-use Rattle.ft_admit.proofs.forms.Lists.{passed}
-use Rattle.ft_admit.proofs.forms.Lists.{no-fault, or-none}
+use Rattle.ft_admit.proofs.forms.Lists.{no-fault, or-none, passed}
 use Rattle.ft_admit.proofs.forms.Lookups.{carded, member-of}
 
 -- bounds are small

@@ -30,8 +30,7 @@ use Rattle.ft_admit.specs.laws.FormFacts.{FormIsLawful, HasLawfulForm}
 use Rattle.ft_admit.specs.meaning.Faultless.{IsFaultless}
 use Rattle.ft_admit.proofs.forms.Blocks.{goals-right, some-fact, takes-differ, takes-right}
 use Rattle.ft_admit.proofs.forms.Counts.{few-blocks, few-clauses, few-facts, few-memories, few-tables, few-vars}
-use Rattle.ft_admit.proofs.forms.Lists.{passed}
-use Rattle.ft_admit.proofs.forms.Lists.{no-fault, or-none}
+use Rattle.ft_admit.proofs.forms.Lists.{no-fault, or-none, passed}
 use Rattle.ft_admit.proofs.forms.Names.{names-lawful}
 use Rattle.ft_admit.proofs.forms.Numbers.{bands, has-both, holds, numbers-within}
 use Rattle.ft_admit.proofs.forms.Shapes.{shaped}
