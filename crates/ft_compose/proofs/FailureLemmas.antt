@@ -71,7 +71,8 @@ states_make_points laws S b f block fact anew is marks settled σ spans fails =
     let takes = map (take_claim S (now_frame S anew)) block.takes in
     let uses = map (use_claim S (now_frame S anew)) block.uses in
     let mine : list_all (claim_true σ) (own S anew block fact) ≡ true =
-    and_from _ _ (true-Not σ (fact_claim S (now_frame S anew) fact) ∙ ap not fails.fails) (both_lists test takes uses fails.taken fails.used)
+    and_from _ _ (true-Not σ (fact_claim S (now_frame S anew) fact) ∙ ap not fails.fails)
+    (both_lists test takes uses fails.taken fails.used)
     in (
       _,
       laws.numbers_make_points (slot_spans S) (block_parts S anew block fact marks) (laws.parts_good S b f block fact is anew marks) σ
