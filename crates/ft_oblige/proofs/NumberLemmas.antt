@@ -1,5 +1,5 @@
 -- The obligations of tables and facts by their numbers.
-use Rattle.std.proofs.Common.{◌≡◌, ◌∙◌, sym, ap, subst, refl, ℕ, zero, suc, ◌+◌, ◌-◌, ◌*◌, ◌<◌, ◌≤◌, Bool, true, false, List, [], ◌∷◌, ◌++◌}
+use Rattle.std.proofs.Common.{◌≡◌, ◌∙◌, sym, ap, subst, refl, ℕ, zero, suc, ◌+◌, ◌-◌, ◌*◌, ◌<◌, Bool, true, false, List, [], ◌∷◌, ◌++◌}
 use Rattle.std.proofs.Common.{length, Some, slice_get, arith}
 use Rattle.std.specs.List.{flat_map, sum_by, range_with_len, enumerate_from}
 use Rattle.std.proofs.lemmas.List.{length-append}
@@ -14,9 +14,8 @@ use Rattle.ft_core.specs.laws.Places.{contained, on-left, place-of}
 use Rattle.ft_core.specs.meaning.Grids.{numbered}
 use Rattle.ft_claims.specs.meaning.Coverage.{Fault, gap, overlap, range}
 use Rattle.ft_oblige.specs.laws.NumberLaws.{SubjectsCounted, TablesHaveNumbers, FactsHaveNumbers}
-use Rattle.ft_oblige.specs.meaning.Blocks.{IsFactAt}
 use Rattle.ft_oblige.specs.meaning.Obligations.{Subject, about_table, about_fact, table_subjects, fact_subjects, block_subjects, subjects}
-use Rattle.ft_oblige.specs.meaning.Obligations.{obligation_count, IsSubject}
+use Rattle.ft_oblige.specs.meaning.Obligations.{IsSubject}
 
 -- an element of the second of two lists
 on-right : {X : Type 0} (xs ys : List X) (j : ℕ) (x : X) → slice_get ys j ≡ Some x → slice_get (xs ++ ys) (length xs + j) ≡ Some x

@@ -10,14 +10,14 @@ use Rattle.ft_core.specs.declared.tables.Fact.{Fact}
 use Rattle.ft_core.specs.meaning.Reads.{Read, grid_reads}
 use Rattle.ft_claims.specs.declared.claim.Claim.{Claim}
 use Rattle.ft_claims.specs.laws.PointLaws.{cover_obliged}
-use Rattle.ft_claims.specs.meaning.Areas.{Obliged, finished}
+use Rattle.ft_claims.specs.meaning.Areas.{finished}
 use Rattle.ft_claims.specs.meaning.Coverage.{Fault, gap}
 use Rattle.ft_claims.specs.meaning.Shown.{AreReadMemories}
 use Rattle.ft_oblige.specs.laws.Marked.{are_marks}
 use Rattle.ft_oblige.specs.laws.NumberLaws.{OneObligation}
-use Rattle.ft_oblige.specs.meaning.Blocks.{IsFactAt, own, others, block_parts}
-use Rattle.ft_oblige.specs.meaning.Linked.{AreSettled, marked}
-use Rattle.ft_oblige.specs.meaning.Obligations.{AreOf, block_obliged, Subject, about_table, about_fact, IsSubject, IsObligation}
+use Rattle.ft_oblige.specs.meaning.Blocks.{IsFactAt, own, others}
+use Rattle.ft_oblige.specs.meaning.Linked.{marked}
+use Rattle.ft_oblige.specs.meaning.Obligations.{AreOf, block_obliged, Subject, about_table, about_fact, IsSubject}
 use Rattle.ft_oblige.specs.meaning.Obligations.{of_table, of_fact}
 use Rattle.ft_oblige.specs.meaning.States.{slot_spans}
 
