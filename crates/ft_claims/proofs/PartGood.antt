@@ -1,5 +1,5 @@
 -- Definitions and moves have names of the scans that they are about, and positive divisors.
-use Rattle.std.proofs.Common.{◌≡◌, ◌∙◌, sym, ap, subst, refl, ℕ, ◌+◌, ◌<◌, ◌≤◌, pos, Bool, true, false, ◌&&◌, cond, ◌==◌, List, [], ◌∷◌}
+use Rattle.std.proofs.Common.{◌≡◌, ◌∙◌, ap, refl, ℕ, ◌+◌, ◌<◌, pos, Bool, true, false, cond, ◌==◌, List, [], ◌∷◌}
 use Rattle.std.proofs.Common.{filter, map, length, Some, slice_get, arith, ⊎_elim}
 use Rattle.std.specs.List.{Contains, list_all, flat_map}
 use Rattle.std.proofs.lemmas.Bool.{and_parts, and_from, cases_Bool, cond-true, cond-false}
@@ -10,7 +10,7 @@ use Rattle.ft_core.specs.declared.tables.Var.{Var}
 use Rattle.ft_core.specs.declared.tables.Memory as tables
 use Rattle.ft_core.specs.declared.tables.Memory.TheVariants.{Held, Hyst}
 use Rattle.ft_core.specs.declared.tables.Section.{Section}
-use Rattle.ft_core.specs.meaning.Grids.{Cell, cells, cells_for}
+use Rattle.ft_core.specs.meaning.Grids.{Cell, cells}
 use Rattle.ft_core.specs.meaning.Kinds.{defined_kinds}
 use Rattle.ft_core.specs.meaning.Reads.{Read, at_now, at_before, of_memory, of_age, cond_reads, term_reads, cell_reads}
 use Rattle.ft_core.specs.checked.Size.{is_sized_term, is_sized, is_sized_memory, is_sized_grid}
@@ -63,14 +63,16 @@ module _ (S : Tables) (frame : Frame) (base : ℕ) (below : IsBelow S frame base
       (at_place (λ t. is_sized_grid S.vars S.memories t.grid) S.tables S.sound.sized_tables o.place o.table o.there) in
       ap (list_all CellSized) o.cells_are ∙ still_pass (λ (c : Cell). c.target == x) CellSized (cells o.table.grid) all
 
-  module _ (has_table : HasTable) (may_read : CellsMayRead) (section : Section) (x : ℕ) (v : Var) (is : IsVar S (defined_kinds section) x v) where
+  module _ (has_table : HasTable) (may_read : CellsMayRead) (section : Section) (x : ℕ) (v : Var)
+      (is : IsVar S (defined_kinds section) x v) where
     parts_sized : (k : ℕ) (cell : Cell) → slice_get (cells_of S section x) k ≡ Some cell
         → (list_all (is_sized S.vars S.memories) cell.conds ≡ true) × (is_sized_term S.vars S.memories cell.term ≡ true)
     parts_sized k cell at = and_parts (list_all (is_sized S.vars S.memories) cell.conds) (is_sized_term S.vars S.memories cell.term)
         (at_place CellSized (cells_of S section x) (own_sized has_table section x v is) k cell at)
 
     reads : (k : ℕ) (cell : Cell) → slice_get (cells_of S section x) k ≡ Some cell → (r : Read) → Contains (cell_reads cell) r → IsThere S r
-    reads k cell at r c = there S r (may-ageless S section r (may_read S section x r (in_all cell_reads (cells_of S section x) k cell r at c)))
+    reads k cell at r c = there S r (may-ageless S section r
+        (may_read S section x r (in_all cell_reads (cells_of S section x) k cell r at c)))
 
     pub cell_good : (k : ℕ) (cell : Cell) → slice_get (cells_of S section x) k ≡ Some cell → good (cell_claim S frame cell) ≡ true
     cell_good k cell at = joined-good base (map (claim_of S frame) cell.conds) (every_image good (claim_of S frame) cell.conds (λ j c here.

@@ -1,6 +1,6 @@
 -- Where no fact fails over two scans, every fact holds at every scan: by the order of the blocks inside a scan, and from scan to scan.
-use Rattle.std.proofs.Common.{◌≡◌, ◌∙◌, sym, ap, subst, refl, ℕ, zero, suc, ◌<◌, Bool, true, false, not, ◌||◌, [], map, length, Option, Some, None}
-use Rattle.std.proofs.Common.{slice_get, arith, ⊎_elim}
+use Rattle.std.proofs.Common.{◌≡◌, ◌∙◌, sym, ap, subst, refl, ℕ, zero, suc, ◌<◌, Bool, true, false, not, ◌||◌, [], map, length, Option}
+use Rattle.std.proofs.Common.{Some, None, slice_get, arith, ⊎_elim}
 use Rattle.std.specs.List.{list_all}
 use Rattle.std.proofs.lemmas.Bool.{cases_Bool, and_from}
 use Rattle.std.proofs.lemmas.Option.{none-some}

@@ -1,13 +1,12 @@
 -- A point of the formula of a fact is a state at which the diagram fails, and each such state is one.
-use Rattle.std.proofs.Common.{◌≡◌, ◌∙◌, sym, ap, refl, ℕ, ◌+◌, ◌<◌, ◌≤◌, ℤ, Bool, true, false, not, List, [], ◌∷◌, ◌++◌, map, length, Some}
-use Rattle.std.proofs.Common.{slice_get, arith, ⊎_elim, true≢false}
+use Rattle.std.proofs.Common.{◌≡◌, ◌∙◌, sym, ap, refl, ℕ, ◌<◌, ℤ, Bool, true, false, not, List, [], ◌∷◌, ◌++◌, map, length, Some}
+use Rattle.std.proofs.Common.{slice_get, arith, true≢false}
 use Rattle.std.specs.Prelude.{IsTrue}
 use Rattle.std.specs.List.{list_all}
-use Rattle.std.proofs.lemmas.Bool.{cases_Bool, and_parts, and_from}
+use Rattle.std.proofs.lemmas.Bool.{and_parts, and_from}
 use Rattle.std.proofs.lemmas.List.Folds.{list_all-append}
 use Rattle.ft_core.specs.declared.tables.Tables.{Tables}
 use Rattle.ft_core.specs.declared.tables.Var.{Var}
-use Rattle.ft_core.specs.declared.tables.Block.{Block}
 use Rattle.ft_core.specs.declared.tables.Fact.{Fact}
 use Rattle.ft_core.specs.declared.tables.Fact.TheVariants.{Invariant, Goal}
 use Rattle.ft_core.specs.declared.tables.Section.{Section}
@@ -23,16 +22,16 @@ use Rattle.ft_claims.specs.laws.FormulaLaws.{AreGood, Gives}
 use Rattle.ft_claims.specs.laws.GoodLaws.{IsBelow}
 use Rattle.ft_claims.specs.meaning.Areas.{is_used}
 use Rattle.ft_claims.specs.meaning.Claims.{claim_true}
-use Rattle.ft_claims.specs.meaning.Names.{width, view}
+use Rattle.ft_claims.specs.meaning.Names.{view}
 use Rattle.ft_claims.specs.meaning.Parts.{cell_claim}
 use Rattle.ft_oblige.specs.laws.Marked.{are_marks, marked_at, marked_all}
 use Rattle.ft_oblige.specs.laws.Tests.{both_lists}
 use Rattle.ft_oblige.specs.meaning.Blocks.{now_frame, fact_claim, take_claim, use_claim, own, others, block_parts}
 use Rattle.ft_oblige.specs.meaning.Linked.{marked}
 use Rattle.ft_oblige.specs.meaning.States.{slot_spans, fact_true}
-use Rattle.ft_compose.specs.laws.FailureLaws.{HasState, PointsAreStates, PointsFail, StatesMakePoints, FailsIsFalse, ToldCellsAlike}
+use Rattle.ft_compose.specs.laws.FailureLaws.{PointsAreStates, PointsFail, StatesMakePoints, FailsIsFalse, ToldCellsAlike}
 use Rattle.ft_compose.specs.laws.Laws.{Laws}
-use Rattle.ft_compose.specs.meaning.Failing.{FailsAt, IsTold}
+use Rattle.ft_compose.specs.meaning.Failing.{IsTold}
 
 pub points_are_states : Laws → PointsAreStates
 points_are_states laws S anew block fact marks p point =
@@ -71,7 +70,8 @@ states_make_points laws S b f block fact anew is marks settled σ spans fails =
     let takes = map (take_claim S (now_frame S anew)) block.takes in
     let uses = map (use_claim S (now_frame S anew)) block.uses in
     let mine : list_all (claim_true σ) (own S anew block fact) ≡ true =
-    and_from _ _ (true-Not σ (fact_claim S (now_frame S anew) fact) ∙ ap not fails.fails) (both_lists test takes uses fails.taken fails.used)
+    and_from _ _ (true-Not σ (fact_claim S (now_frame S anew) fact) ∙ ap not fails.fails)
+    (both_lists test takes uses fails.taken fails.used)
     in (
       _,
       laws.numbers_make_points (slot_spans S) (block_parts S anew block fact marks) (laws.parts_good S b f block fact is anew marks) σ

@@ -1,6 +1,5 @@
 -- The law of composition by the numbers of obligations.
 use Rattle.std.proofs.Common.{refl, length}
-use Rattle.std.specs.List.{list_all}
 use Rattle.ft_claims.specs.meaning.Claims.{claim_true}
 use Rattle.ft_oblige.specs.laws.Marked.{marked_hold}
 use Rattle.ft_oblige.specs.laws.Tests.{both_lists}

@@ -1,10 +1,10 @@
 -- Along a reading that is whole, what a block takes and what else its formulas may hold is true at each scan.
-use Rattle.std.proofs.Common.{◌≡◌, ◌∙◌, sym, ap, subst, refl, ℕ, zero, suc, ◌<◌, ◌≤◌, ℤ, pos, Bool, true, false, ◌||◌, cond, List, ◌++◌}
-use Rattle.std.proofs.Common.{map, length, Option, Some, None, slice_get, arith, ⊎_elim, true≢false}
+use Rattle.std.proofs.Common.{◌≡◌, ◌∙◌, ap, subst, refl, ℕ, zero, suc, ◌<◌, ◌≤◌, ℤ, pos, Bool, true, false, ◌||◌, cond, List, ◌++◌}
+use Rattle.std.proofs.Common.{map, length, Some, slice_get, arith, ⊎_elim}
 use Rattle.std.specs.Prelude.{IsTrue}
 use Rattle.std.specs.List.{Contains, list_all, flat_map, range_with_len}
 use Rattle.std.specs.Ordering.{int_eq}
-use Rattle.std.proofs.lemmas.Bool.{cases_Bool, and_parts, cond-true, cond-false, ltb-true}
+use Rattle.std.proofs.lemmas.Bool.{cases_Bool, and_parts, ltb-true}
 use Rattle.std.proofs.lemmas.Option.{none-some, same_Some, slice_get_within}
 use Rattle.ft_base.specs.Interval.{IsWithin}
 use Rattle.ft_core.specs.declared.tables.Tables.{Tables}
@@ -19,9 +19,9 @@ use Rattle.ft_core.specs.declared.tables.Take.TheVariants as take
 use Rattle.ft_core.specs.declared.tables.Section.{Section}
 use Rattle.ft_core.specs.declared.tables.Section.TheVariants as section
 use Rattle.ft_core.specs.declared.term.Cond.{Cond}
-use Rattle.ft_core.specs.checked.Sound.{may_read, side_of}
+use Rattle.ft_core.specs.checked.Sound.{may_read}
 use Rattle.ft_core.specs.laws.Places.{some-at, contained}
-use Rattle.ft_core.specs.meaning.Kinds.{Kinds, monitored, inputs, requirement, design, controlled, defined_kinds, is_of}
+use Rattle.ft_core.specs.meaning.Kinds.{monitored, inputs, requirement, design, controlled, is_of}
 use Rattle.ft_core.specs.meaning.Reads.{Read, cond_reads}
 use Rattle.ft_mean.specs.laws.EvaluationLaws.{Same}
 use Rattle.ft_mean.specs.laws.Moves.{moves, age_begins, age_goes_on, bit_goes_on}

@@ -100,7 +100,8 @@ module _ (laws : Laws) (S : Tables) (ρ : Reading) (t : ℕ)
   -- each number is in its span
   pub state_within : InSpans S (state_of S ρ t)
   state_within = record {
-    now = λ x v is. subst (IsWithin v.range) (sym (state_now laws S ρ t x (slice_get_within S.vars x v is))) (ranges t x v (omega arith) is);
+    now = λ x v is. subst (IsWithin v.range) (sym (state_now laws S ρ t x (slice_get_within S.vars x v is)))
+        (ranges t x v (omega arith) is);
     kept_now = λ m memory is. subst (IsWithin (span_of memory))
         (sym (state_kept laws S ρ t m (slice_get_within S.memories m memory is))) (laws.memories_move S ρ m memory is t).in_span;
     past = λ x v is. subst (IsWithin v.range) (sym (state_before laws S ρ t x (slice_get_within S.vars x v is)))

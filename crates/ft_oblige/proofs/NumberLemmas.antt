@@ -1,5 +1,5 @@
 -- The obligations of tables and facts by their numbers.
-use Rattle.std.proofs.Common.{◌≡◌, ◌∙◌, sym, ap, subst, refl, ℕ, zero, suc, ◌+◌, ◌-◌, ◌*◌, ◌<◌, ◌≤◌, Bool, true, false, List, [], ◌∷◌, ◌++◌}
+use Rattle.std.proofs.Common.{◌≡◌, ◌∙◌, sym, ap, subst, refl, ℕ, zero, suc, ◌+◌, ◌-◌, ◌*◌, ◌<◌, Bool, true, false, List, [], ◌∷◌, ◌++◌}
 use Rattle.std.proofs.Common.{length, Some, slice_get, arith}
 use Rattle.std.specs.List.{flat_map, sum_by, range_with_len, enumerate_from}
 use Rattle.std.proofs.lemmas.List.{length-append}
@@ -14,9 +14,8 @@ use Rattle.ft_core.specs.laws.Places.{contained, on-left, place-of}
 use Rattle.ft_core.specs.meaning.Grids.{numbered}
 use Rattle.ft_claims.specs.meaning.Coverage.{Fault, gap, overlap, range}
 use Rattle.ft_oblige.specs.laws.NumberLaws.{SubjectsCounted, TablesHaveNumbers, FactsHaveNumbers}
-use Rattle.ft_oblige.specs.meaning.Blocks.{IsFactAt}
 use Rattle.ft_oblige.specs.meaning.Obligations.{Subject, about_table, about_fact, table_subjects, fact_subjects, block_subjects, subjects}
-use Rattle.ft_oblige.specs.meaning.Obligations.{obligation_count, IsSubject}
+use Rattle.ft_oblige.specs.meaning.Obligations.{IsSubject}
 
 -- an element of the second of two lists
 on-right : {X : Type 0} (xs ys : List X) (j : ℕ) (x : X) → slice_get ys j ≡ Some x → slice_get (xs ++ ys) (length xs + j) ≡ Some x
@@ -74,7 +73,8 @@ facts_numbered S b f block fact at anew =
     let late = flat_map block_subjects (numbered S.blocks) in
     let two = two-there b f anew in
     let in_block = in_all (fact_subjects b) (range_with_len 0 (length block.facts)) f f subject
-    (range-at (length block.facts) f (slice_get_within block.facts f fact at.in_block)) (contained (fact_subjects b f) two.0 subject two.1) in
+    (range-at (length block.facts) f (slice_get_within block.facts f fact at.in_block))
+    (contained (fact_subjects b f) two.0 subject two.1) in
     let zero-b : 0 + b ≡ b = omega arith in
     let named : slice_get (numbered S.blocks) b ≡ Some (b, block) =
     subst (λ (n : ℕ). slice_get (numbered S.blocks) b ≡ Some (n, block)) zero-b (number-at 0 S.blocks b block at.in_set) in
@@ -101,7 +101,8 @@ subjects-long S =
 
 -- the three of a table, by their places
 three-at : (from : ℕ) (ts : List Table) (k : ℕ) (t : Table) → slice_get ts k ≡ Some t → (j : ℕ) (s : Subject)
-    → slice_get (table_subjects (from + k, t)) j ≡ Some s → slice_get (flat_map table_subjects (enumerate_from from ts)) (3 * k + j) ≡ Some s
+    → slice_get (table_subjects (from + k, t)) j ≡ Some s
+    → slice_get (flat_map table_subjects (enumerate_from from ts)) (3 * k + j) ≡ Some s
 three-at from [] k t e j s at = absurd (none-some t e)
 three-at from (u ∷ ts) zero t e j s at =
     let start : from + 0 ≡ from = omega arith in

@@ -10,14 +10,14 @@ use Rattle.ft_core.specs.declared.tables.Fact.{Fact}
 use Rattle.ft_core.specs.meaning.Reads.{Read, grid_reads}
 use Rattle.ft_claims.specs.declared.claim.Claim.{Claim}
 use Rattle.ft_claims.specs.laws.PointLaws.{cover_obliged}
-use Rattle.ft_claims.specs.meaning.Areas.{Obliged, finished}
+use Rattle.ft_claims.specs.meaning.Areas.{finished}
 use Rattle.ft_claims.specs.meaning.Coverage.{Fault, gap}
 use Rattle.ft_claims.specs.meaning.Shown.{AreReadMemories}
 use Rattle.ft_oblige.specs.laws.Marked.{are_marks}
 use Rattle.ft_oblige.specs.laws.NumberLaws.{OneObligation}
-use Rattle.ft_oblige.specs.meaning.Blocks.{IsFactAt, own, others, block_parts}
-use Rattle.ft_oblige.specs.meaning.Linked.{AreSettled, marked}
-use Rattle.ft_oblige.specs.meaning.Obligations.{AreOf, block_obliged, Subject, about_table, about_fact, IsSubject, IsObligation}
+use Rattle.ft_oblige.specs.meaning.Blocks.{IsFactAt, own, others}
+use Rattle.ft_oblige.specs.meaning.Linked.{marked}
+use Rattle.ft_oblige.specs.meaning.Obligations.{AreOf, block_obliged, Subject, about_table, about_fact, IsSubject}
 use Rattle.ft_oblige.specs.meaning.Obligations.{of_table, of_fact}
 use Rattle.ft_oblige.specs.meaning.States.{slot_spans}
 
@@ -40,7 +40,9 @@ tail-within : (x y : ℕ) (xs ys : List ℕ) → x ≡ y → Rises (x ∷ xs) �
 tail-within x y xs ys same up within i m at = inner (within (suc i) m at)
   where
     inner : (j : ℕ) × (slice_get (y ∷ ys) j ≡ Some m) → (j : ℕ) × (slice_get ys j ≡ Some m)
-    inner (zero, e) = absurd (let above = up 0 (suc i) x m refl at (omega arith) in let is = same_Some y m e in omega (arith, above, is, same))
+    inner (zero, e) =
+        let above = up 0 (suc i) x m refl at (omega arith) in
+        let is = same_Some y m e in absurd (omega (arith, above, is, same))
     inner (suc j, e) = (j, e)
 
 one-rising : (xs ys : List ℕ) → Rises xs → Rises ys → Within xs ys → Within ys xs → xs ≡ ys
@@ -140,5 +142,5 @@ one_obligation S n o p (of_fact b g block fact anew ns at' there' are' is') (of_
     absurd (true≢false (ap is_of_table (one-subject S n (about_table k f) (about_fact b g anew) at at')))
 one_obligation S n o p (of_fact b f block fact anew ms at there are is) (of_fact c g other its also ns at' there' are' is') =
     let same = one-subject S n (about_fact b f anew) (about_fact c g also) at at' in
-    is ∙ same-fact S b c f g block other fact its anew also ms ns (ap first_place same) (ap second_place same) (ap anew_in same) there there'
-    are are' ∙ sym is'
+    is ∙ same-fact S b c f g block other fact its anew also ms ns (ap first_place same) (ap second_place same) (ap anew_in same)
+    there there' are are' ∙ sym is'

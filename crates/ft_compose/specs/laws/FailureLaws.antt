@@ -1,5 +1,5 @@
 -- The points of the formula of a fact are the states at which the diagram fails.
-use Rattle.std.specs.Prelude.{ℕ, ◌≡◌, ℤ, Bool, IsFalse, List, length, Some, slice_get}
+use Rattle.std.specs.Prelude.{ℕ, ◌≡◌, ℤ, Bool, IsFalse, List, Some, slice_get}
 use Rattle.ft_core.specs.declared.tables.Tables.{Tables}
 use Rattle.ft_core.specs.declared.tables.Var.{Var}
 use Rattle.ft_core.specs.declared.tables.Block.{Block}

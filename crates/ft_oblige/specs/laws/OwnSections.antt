@@ -21,7 +21,8 @@ pub taken_kinds : (S : Tables) (x : ℕ) → (is_of S.vars (defined_kinds sectio
 taken_kinds S x may = by_var (slice_get S.vars x) refl may
   where
     by_var : (o : Option Var) → slice_get S.vars x ≡ o
-        → (elim o as (λ z. Bool) [ None ↦ false | Some v ↦ requirement x v ] || elim o as (λ z. Bool) [ None ↦ false | Some v ↦ design x v ])
+        → (elim o as (λ z. Bool) [ None ↦ false | Some v ↦ requirement x v ]
+        || elim o as (λ z. Bool) [ None ↦ false | Some v ↦ design x v ])
         ≡ true
         → (v : Var) × (slice_get S.vars x ≡ Some v) × ((requirement x v || design x v) ≡ true)
     by_var None e t = absurd (true≢false (sym t))

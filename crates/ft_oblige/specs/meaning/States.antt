@@ -1,5 +1,5 @@
 -- The numbers that the names of two scans have along a reading, and what they may be.
-use Rattle.std.specs.Prelude.{ℕ, ℤ, pos, Bool, List, ◌++◌, map, Option, Some, None, slice_get, if◌then◌else◌}
+use Rattle.std.specs.Prelude.{ℕ, ℤ, pos, Bool, ◌++◌, map, Option, Some, None, slice_get, if◌then◌else◌}
 use Rattle.ft_core.specs.declared.tables.Tables.{Tables}
 use Rattle.ft_core.specs.declared.tables.Memory.{Memory}
 use Rattle.ft_core.specs.declared.tables.Fact.{Fact}
