@@ -1,6 +1,9 @@
 pub mod AreaLemmas
 pub mod BudgetLemmas
 pub mod HalvingLemmas
+pub mod PointLemmas
 pub mod ReadingLemmas
+pub mod SizeLemmas
+pub mod StateLemmas
 pub mod TurnLemmas
 pub mod WalkLemmas

@@ -3,4 +3,5 @@ pub mod Kept
 pub mod Single
 pub mod Turn
 pub mod Walk
+pub mod Sizes
 pub mod Space

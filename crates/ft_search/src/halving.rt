@@ -72,13 +72,7 @@ fn by_form(form: &Lin, atom: u32, value: bool, spans: &[Span]) -> Option<Single>
 }
 
 /// Whether a literal of an atom of the formula is forced.
-pub(crate) fn is_forced(
-    formula: &Formula,
-    part: &Part,
-    marks: &Marks,
-    atom: u32,
-    value: bool,
-) -> bool
+fn is_forced(formula: &Formula, part: &Part, marks: &Marks, atom: u32, value: bool) -> bool
     requires opened { AreFor formula.now part.now marks.now }
     requires judged { AreJudged formula.now part.now marks.now }
     requires atom { atom < length formula.now.atoms }

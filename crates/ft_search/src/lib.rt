@@ -1,6 +1,9 @@
 //! The search for evidence that an area has no point of a formula, or for such a point.
 #![tactic(auto)]
 
+mod budget;
+mod counts;
+mod deciding;
 mod halving;
 mod kept;
 mod law;
@@ -8,6 +11,7 @@ mod points;
 mod reading;
 mod room;
 mod searching;
+mod solution;
 mod spent;
 mod turns;
 
