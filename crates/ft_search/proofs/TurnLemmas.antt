@@ -1,5 +1,5 @@
 -- Turns of a search, and their counts.
-use Rattle.std.proofs.Common.{◌≡◌, ◌∙◌, ◌⊎◌, inl, inr, sym, ap, subst, refl, ℕ, zero, suc, ◌+◌, ◌<◌, ◌≤◌, ℤ, Bool, true, false, cond, arith}
+use Rattle.std.proofs.Common.{◌≡◌, ◌⊎◌, inl, inr, sym, ap, subst, refl, ℕ, zero, suc, ◌+◌, ◌<◌, ◌≤◌, ℤ, Bool, true, false, cond, arith}
 use Rattle.std.proofs.Common.{List, [], ◌∷◌, length, Option, Some, slice_index_or}
 use Rattle.std.specs.Prelude.{unwrap_or, nat_lt}
 use Rattle.std.proofs.lemmas.Bool.{cases_eq}
@@ -14,29 +14,38 @@ use Rattle.ft_cert.specs.declared.node.CertNode.TheVariants as node
 use Rattle.ft_cert.specs.meaning.Parts.{cut_to, tight_span}
 use Rattle.ft_cert.specs.walk.Steps.{IsStepOf, parts_by, room_by}
 use Rattle.ft_search.specs.declared.halving.Single.{Single}
+use Rattle.ft_search.specs.declared.turns.Turn.{Turn}
 use Rattle.ft_search.specs.declared.kept.KeptNode.TheVariants as kept
 use Rattle.ft_search.specs.meaning.Spent.{IsUnsettled, middle_of}
 use Rattle.ft_search.specs.searching.Kept.{form_of}
-use Rattle.ft_search.specs.searching.Single.{IsSingle}
+use Rattle.ft_search.specs.searching.Single.{IsTight}
 use Rattle.ft_cert.specs.walk.Waiting.{first_of}
 use Rattle.ft_linear.specs.meaning.Form.{InArea}
 use Rattle.ft_search.specs.searching.Walk.{AreInside}
 use Rattle.ft_search.specs.searching.Turn.{IsTurn, halvings_by, splits_by, tightens_by}
 
--- a literal that halves an unknown makes a turn
-pub halved-turn : (f : FormulaView) (p : PartView) (enough halved : ℕ) (s : Single) → IsSingle f p s
-    → IsTurn f p enough halved (record { node = kept.Tightened s.unknown s.atom s.value; step = step.Tighten s.unknown s.span; halves = true })
-halved-turn f p enough halved s single =
-    let lines = single_lines s.atom s.value s.unknown (form_of f s.atom) in
-    let same : tight_span f p s.unknown lines ≡ s.span
-    = ap (λ (o : Option (ℤ × ℤ)). unwrap_or o (span_at p.spans s.unknown)) single.tightens.narrows in
-    record {
-      holds = subst (λ (t : ℤ × ℤ). Tightens f p s.unknown lines t) (sym same) single.tightens;
+-- a literal that tightens an unknown makes a turn
+pub tight-turn : (f : FormulaView) (p : PartView) (enough halved : ℕ) (s : Single) (t : Turn) → IsTight f p s
+    → t.node ≡ kept.Tightened s.unknown s.atom s.value → t.step ≡ step.Tighten s.unknown s.span
+    → t.halves ≡ is_half (span_at p.spans s.unknown) s.span → IsTurn f p enough halved t
+tight-turn f p enough halved s t tight node taken halves =
+    subst (λ (t : Turn). IsTurn f p enough halved t) (λ i. record { node = sym node i; step = sym taken i; halves = sym halves i }) whole
+  where
+    same : tight_span f p s.unknown (single_lines s.atom s.value s.unknown (form_of f s.atom)) ≡ s.span
+    same = ap (λ (o : Option (ℤ × ℤ)). unwrap_or o (span_at p.spans s.unknown)) tight.narrows
+
+    whole : IsTurn f p enough halved (record {
+      node = kept.Tightened s.unknown s.atom s.value;
+      step = step.Tighten s.unknown s.span;
+      halves = is_half (span_at p.spans s.unknown) s.span;
+    })
+    whole = record {
+      holds = subst (λ (t : ℤ × ℤ). Tightens f p s.unknown (single_lines s.atom s.value s.unknown (form_of f s.atom)) t) (sym same) tight;
       lawful = tt;
       parts = ap (λ (t : ℤ × ℤ). cut_to p s.unknown t ∷ []) same;
-      can = single.tightens.unknown;
+      can = tight.unknown;
       splits = refl;
-      halves = ap (λ (b : Bool). cond b 1 0) (ap (is_half (span_at p.spans s.unknown)) same ∙ single.half);
+      halves = ap (λ (b : Bool). cond b 1 0) (ap (is_half (span_at p.spans s.unknown)) same);
       tightens = λ e. cc e;
     }
 

@@ -87,6 +87,19 @@ impl Counts {
         }
     }
 
+    /// How many more tightenings of any kind there is room for in a search of so many splits.
+    pub(crate) fn left(&self, budget: u32) -> u32
+        requires budget { budget ≤ 200000 }
+        requires halved { self.now.halved < 10000000 }
+        requires by_halved { self.now.tight ≤ self.now.halved + others_for budget }
+        requires limit { self.now.tight ≤ enough_for budget + others_for budget }
+        ensures by_halved { result + self.now.tight ≤ self.now.halved + others_for budget }
+        ensures limit { result + self.now.tight ≤ enough_for budget + others_for budget }
+    {
+        let most = self.halved.min(enough_for(budget)) + others_for(budget);
+        most - self.tight
+    }
+
     /// What these counts allow a search of so many splits.
     pub(crate) fn allowed(&self, budget: u32) -> Allowed
         requires budget { budget ≤ 200000 }

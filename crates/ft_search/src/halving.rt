@@ -23,7 +23,7 @@ pub(crate) struct Single {
 }
 
 /// Whether a span has at most half of the values of another.
-fn is_half(old: Span, new: Span) -> bool
+pub(crate) fn is_half(old: Span, new: Span) -> bool
     ensures { result ≡ is_half old new }
 {
     2 * (width(new) + 1) <= width(old) + 1
@@ -72,7 +72,13 @@ fn by_form(form: &Lin, atom: u32, value: bool, spans: &[Span]) -> Option<Single>
 }
 
 /// Whether a literal of an atom of the formula is forced.
-fn is_forced(formula: &Formula, part: &Part, marks: &Marks, atom: u32, value: bool) -> bool
+pub(crate) fn is_forced(
+    formula: &Formula,
+    part: &Part,
+    marks: &Marks,
+    atom: u32,
+    value: bool,
+) -> bool
     requires opened { AreFor formula.now part.now marks.now }
     requires judged { AreJudged formula.now part.now marks.now }
     requires atom { atom < length formula.now.atoms }

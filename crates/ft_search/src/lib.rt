@@ -11,8 +11,10 @@ mod points;
 mod reading;
 mod room;
 mod searching;
+mod settling;
 mod solution;
 mod spent;
+mod sweeping;
 mod turns;
 
 pub use law::search_laws;

@@ -4,6 +4,7 @@ ghost use Rattle.ft_search.specs.searching.Space.{IsFreshFor, IsRoomFor};
 
 use crate::budget::budget;
 use crate::kept::KeptNode;
+use crate::sweeping::Sweep;
 use ft_base::{NoMemory, Span};
 use ft_cert::Descent;
 use ft_diff::{Diff, DiffRoom, open_lines};
@@ -18,6 +19,7 @@ pub(crate) struct Judging {
     pub(crate) lines: Vec<Diff>,
     pub(crate) numbers: DiffRoom,
     pub(crate) point: Vec<i64>,
+    pub(crate) sweep: Sweep,
 }
 
 /// Room for a value of each unknown.
@@ -35,18 +37,19 @@ impl Judging {
     fn open(
         alloc: Global,
         formula: &Formula,
-        spans: &[Span],
+        area: &Area,
         unknowns: u32,
     ) -> Result<Judging, NoMemory>
         requires atoms { length formula.now.atoms < 2 ^ 32 }
-        requires unknowns { unknowns ≡ length spans.now }
+        requires unknowns { unknowns ≡ length area.now.spans }
         ensures { IfOk result (IsRoomFor formula.now unknowns) }
     {
         Ok(Judging {
             marks: Marks::open(alloc, formula)?,
             lines: open_lines(alloc, formula)?,
             numbers: DiffRoom::open(alloc, unknowns, 0)?,
-            point: open_point(alloc, spans)?,
+            point: open_point(alloc, area.spans.as_slice())?,
+            sweep: Sweep::open(alloc, formula, area, 2 * unknowns as usize + 16)?,
         })
     }
 }
@@ -99,7 +102,7 @@ impl Room {
         };
         let budget = budget(spans, atoms, splits);
         Ok(Room {
-            judging: Judging::open(alloc, formula, spans, unknowns)?,
+            judging: Judging::open(alloc, formula, area, unknowns)?,
             descent: Descent::open(alloc, formula, area, steps_for(budget, unknowns))?,
             nodes: Pool::open(alloc, nodes_for(budget))?,
             splits,

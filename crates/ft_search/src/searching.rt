@@ -11,6 +11,7 @@ ghost use Rattle.ft_search.specs.searching.Turn.{splits_by};
 use crate::counts::Counts;
 use crate::law::search_laws;
 use crate::room::Room;
+use crate::settling::settle;
 use crate::turns::{Choice, Turn, choose};
 use ft_base::Span;
 use ft_cert::{Descent, Step};
@@ -40,7 +41,7 @@ fn is_used_up(step: Step, used: u32, splits: u32) -> bool
 }
 
 /// Keeps a node and takes its step.
-fn go(room: &mut Room, turn: Turn)
+pub(crate) fn go(room: &mut Room, turn: Turn)
     requires waits { 0 < length room.old.descent.parts }
     requires step { CanStep (first_of room.old.descent.parts) turn.step }
     requires steps { room_by turn.step ≤ room.old.descent.spare }
@@ -135,19 +136,27 @@ pub fn search(formula: &Formula, area: &Area, room: &mut Room) -> Found
         if room.descent.is_ended() {
             return Found::Closed;
         }
-        let allowed = counts.allowed(budget);
+        let settled = settle(formula, area, room, counts);
+        let allowed = settled.counts.allowed(budget);
         let part = room.descent.part();
-        match choose(formula, part, &mut room.judging, allowed, room.strict) {
+        match choose(
+            formula,
+            part,
+            &mut room.judging,
+            settled.truth,
+            allowed,
+            room.strict,
+        ) {
             Choice::Met => return Found::Point,
             Choice::Found => {
                 go_to_found(room);
                 return Found::Point;
             }
             Choice::Turn(turn) => {
-                if is_used_up(turn.step, counts.used, budget) {
+                if is_used_up(turn.step, settled.counts.used, budget) {
                     return Found::Spent;
                 }
-                counts = counts.with(&turn);
+                counts = settled.counts.with(&turn);
                 go(room, turn);
             }
         }

@@ -7,6 +7,8 @@ ghost use Rattle.ft_linear.specs.meaning.Form.{values_at};
 ghost use Rattle.ft_linear.specs.meaning.Formula.{IsOver};
 ghost use Rattle.ft_linear.specs.meaning.Marks.{AreFor, AreJudged};
 ghost use Rattle.ft_linear.specs.meaning.Part.{truth_of};
+ghost use Rattle.ft_cert.specs.declared.step.Step.TheVariants.{Tighten};
+ghost use Rattle.ft_search.specs.declared.kept.KeptNode.TheVariants.{Tightened};
 ghost use Rattle.ft_search.specs.meaning.Spent.{IsOpenAtom};
 ghost use Rattle.ft_search.specs.searching.Single.{IsSingle};
 ghost use Rattle.ft_search.specs.searching.Space.{IsRoomFor};
@@ -22,7 +24,7 @@ use crate::solution::is_point;
 use ft_base::Three;
 use ft_cert::{Step, case_step, cut_step};
 use ft_diff::has_solution;
-use ft_linear::{Formula, Marks, Part, judge, part_laws};
+use ft_linear::{Formula, Marks, Part, part_laws};
 
 /// A node, and the step from its part to those of its children.
 #[derive(Clone, Copy, Drop)]
@@ -197,11 +199,11 @@ fn plain_choice(formula: &Formula, part: &Part, room: &mut Judging, strict: bool
     }
 }
 
-/// A literal's own line halves an unknown.
-fn halved_turn(formula: &Formula, part: &Part, single: Single) -> Turn
-    requires { IsSingle formula.now part.now single }
-    ensures turn { (enough halved : ℕ) → IsTurn formula.now part.now enough halved result }
-    ensures halves { IsTrue result.halves }
+/// The node of a literal that tightens an unknown.
+pub(crate) fn tight_turn(single: Single, halves: bool) -> Turn
+    ensures node { result.node ≡ Tightened single.unknown single.atom single.value }
+    ensures step { result.step ≡ Tighten single.unknown single.span }
+    ensures halves { result.halves ≡ halves }
 {
     Turn {
         node: KeptNode::Tightened {
@@ -213,8 +215,17 @@ fn halved_turn(formula: &Formula, part: &Part, single: Single) -> Turn
             unknown: single.unknown,
             span: single.span,
         },
-        halves: true,
+        halves,
     }
+}
+
+/// A literal's own line halves an unknown.
+fn halved_turn(formula: &Formula, part: &Part, single: Single) -> Turn
+    requires { IsSingle formula.now part.now single }
+    ensures turn { (enough halved : ℕ) → IsTurn formula.now part.now enough halved result }
+    ensures halves { IsTrue result.halves }
+{
+    tight_turn(single, true)
 }
 
 /// What a search does at a part whose truth is Maybe, with a literal that halves an unknown first where that is asked for.
@@ -245,24 +256,28 @@ fn maybe_choice(
     }
 }
 
-/// What a search does at the part.
+/// What a search does at the part, which was judged last.
 pub(crate) fn choose(
     formula: &Formula,
     part: &Part,
     room: &mut Judging,
+    truth: Three,
     allowed: Allowed,
     strict: bool,
 ) -> Choice
     requires room { IsRoomFor formula.now (length part.now.spans) room.old }
     requires decided { length part.now.decided ≡ length formula.now.atoms }
     requires over { IsOver (length part.now.spans) formula.now }
+    requires truth { truth ≡ truth_of formula.now part.now }
+    requires judged { AreJudged formula.now part.now room.old.marks }
     ensures choice { (enough halved : ℕ) → (halved < enough → IsTrue allowed.halving)
         → IsChoice formula.now part.now enough halved result }
     ensures found { IsFoundAt formula.now part.now room.new.point.items result }
     ensures allowed { IsAllowed allowed result }
     ensures room { IsRoomFor formula.now (length part.now.spans) room.new }
 {
-    match judge(formula, part, &mut room.marks) {
+    part_laws();
+    match truth {
         Three::No => Choice::Turn(Turn {
             node: KeptNode::Refuted,
             step: Step::Close,

@@ -14,6 +14,7 @@ use Rattle.ft_search.specs.declared.searching.Found.TheVariants as found
 use Rattle.ft_search.specs.meaning.Spent.{IsSpent, enough_for}
 use Rattle.ft_search.specs.searching.Kept.{IsEvidence, nodes_by}
 use Rattle.ft_search.specs.searching.Sizes.{IsEnough, nodes_for, others_for, steps_for}
+use Rattle.ft_search.specs.searching.Sweep.{IsSweepFor}
 use Rattle.ft_search.specs.searching.Walk.{IsWalk}
 
 pub record IsRoomFor (f : FormulaView) (unknowns : ℕ) (r : Judging) : Type 0 where
@@ -23,6 +24,7 @@ pub record IsRoomFor (f : FormulaView) (unknowns : ℕ) (r : Judging) : Type 0 w
   pub lines : length r.lines.items ≡ 2 * length f.atoms
   pub numbers : unknowns ≤ length r.numbers
   pub point : length r.point.items ≡ unknowns
+  pub sweep : IsSweepFor f unknowns r.sweep
   pub few_atoms : length f.atoms < 2 ^ 32
   pub few_unknowns : unknowns < 2 ^ 32
 

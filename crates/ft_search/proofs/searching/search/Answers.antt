@@ -1,4 +1,4 @@
-use Rattle.std.proofs.Common.{◌≡◌, ◌∙◌, sym, ap, subst, refl, ◌<◌, ℕ, ℤ, length, arith}
+use Rattle.std.proofs.Common.{◌≡◌, ◌∙◌, sym, ap, subst, refl, ℕ, ℤ, length, arith}
 use Rattle.std.specs.Prelude.{nat_lt}
 use Rattle.ft_linear.specs.meaning.Form.{InArea, values_at}
 use Rattle.ft_linear.specs.meaning.Formula.{Satisfies}
@@ -38,14 +38,14 @@ returns-then-is_ended-clause-found c =
 pub returns-in-Met-clause-found : goal.returns-in-Met-clause-found
 returns-in-Met-clause-found c =
     let f = c.args.formula.now in
-    let parts = c.parts.room.descent.parts in
-    let some : 0 < length parts = some-parts parts (λ e. cc (sym c.if-is_ended.false ∙ c.is_ended.ensures.1 e)) in
+    let parts = c.settle-settled.new.room.descent.parts in
+    let some = c.settle-settled.ensures.some in
     let chosen : IsChoice f c.part-part.result.now 0 0 choice.Met
     = subst (λ (o : Choice). IsChoice f c.part-part.result.now 0 0 o) c.in-Met.is
     (c.choose.ensures.choice 0 0 (λ below. absurd (omega (arith, below)))) in
     record {
       some = some;
-      inside = λ x. first-inside c.args.area.now.spans x parts some (c.parts.invariant.way.walk.inside x);
+      inside = λ x. first-inside c.args.area.now.spans x parts some (c.settle-settled.ensures.way.walk.inside x);
       satisfies = subst (λ (p : PartView). (x : ℕ → ℤ) → InArea p.spans x → Satisfies f x) c.part-part.ensures.part chosen;
     }
 
@@ -53,15 +53,15 @@ pub returns-in-Found-clause-found : goal.returns-in-Found-clause-found
 returns-in-Found-clause-found c =
     let f = c.args.formula.now in
     let spans = c.args.area.now.spans in
-    let parts = c.parts.room.descent.parts in
+    let parts = c.settle-settled.new.room.descent.parts in
     let values = c.choose.new.room.point.items in
-    let some : 0 < length parts = some-parts parts (λ e. cc (sym c.if-is_ended.false ∙ c.is_ended.ensures.1 e)) in
+    let some = c.settle-settled.ensures.some in
     let point : IsPoint f c.part-part.result.now.spans values
     = subst (λ (o : Choice). IsFoundAt f c.part-part.result.now values o) c.in-Found.is c.choose.ensures.found in
     let inside : InArea spans (values_at values)
-    = first-inside spans (values_at values) parts some (c.parts.invariant.way.walk.inside (values_at values))
+    = first-inside spans (values_at values) parts some (c.settle-settled.ensures.way.walk.inside (values_at values))
     (subst (λ (p : PartView). InArea p.spans (values_at values)) c.part-part.ensures.part point.inside) in
-    let long = c.choose.ensures.room.point ∙ c.part-part.ensures.unknowns ∙ c.parts.invariant.way.unknowns in
+    let long = c.choose.ensures.room.point ∙ c.part-part.ensures.unknowns ∙ c.settle-settled.ensures.way.unknowns in
     record {
       some = c.go_to_found.ensures.some;
       inside = λ x area. moved-area spans x (values_at values)
@@ -76,10 +76,10 @@ returns-then-is_used_up-clause-found c =
     let spans = c.args.area.now.spans in
     let root = whole_of f spans in
     let b = c.args.room.now.budget in
-    let h = c.parts.counts.halved in
-    let parts = c.parts.room.descent.parts in
-    let ns = nodes_by f c.parts.room.nodes.items in
-    let some : 0 < length parts = some-parts parts (λ e. cc (sym c.if-is_ended.false ∙ c.is_ended.ensures.1 e)) in
+    let h = c.settle-settled.result.counts.halved in
+    let parts = c.settle-settled.new.room.descent.parts in
+    let ns = nodes_by f c.settle-settled.new.room.nodes.items in
+    let some = c.settle-settled.ensures.some in
     let chosen : IsTurn f c.part-part.result.now (enough_for b) h c.in-Turn.turn
     = subst (λ (o : Choice). IsChoice f c.part-part.result.now (enough_for b) h o) c.in-Turn.is
     (c.choose.ensures.choice (enough_for b) h (λ below. c.allowed-allowed.ensures.halving ∙ asked-is h (enough_for b) h (enough_for b) refl
@@ -89,13 +89,14 @@ returns-then-is_used_up-clause-found c =
     let used_up = c.is_used_up.ensures.0 c.if-is_used_up.true in
     let unsettled = unsettled-at f (enough_for b) h (first_of parts) (node_of f c.in-Turn.turn.node) (turn.splits ∙ used_up.0)
     turn.lawful in
-    let walk = subst (λ (n : ℕ). IsWalk f (enough_for n) root ns parts c.parts.counts.used h c.parts.counts.tight) c.parts.invariant.budget
-    c.parts.invariant.way.walk in
+    let same = c.settle-settled.ensures.budget ∙ c.parts.invariant.budget in
+    let walk = subst (λ (n : ℕ). IsWalk f (enough_for n) root ns parts c.settle-settled.result.counts.used h c.settle-settled.result.counts.tight) same
+    c.settle-settled.ensures.way.walk in
     let spent : IsSpentBy f (enough_for b) root b (tree_of ns)
-    = is-spent f (enough_for b) root ns parts c.parts.counts.used h c.parts.counts.tight walk b used_up.1 some unsettled in
+    = is-spent f (enough_for b) root ns parts c.settle-settled.result.counts.used h c.settle-settled.result.counts.tight walk b used_up.1 some unsettled in
     let all = spent-all c.search_laws.ensures.budget f spans b c.args.room.now.splits (tree_of ns) c.requires.fresh.budget
     c.requires.fresh.enough c.root-root.ensures.below spent in
-    subst (λ (n : ℕ). IsSpentBy f (enough_for n) root n (tree_of ns)) (sym c.parts.invariant.splits) all
+    subst (λ (n : ℕ). IsSpentBy f (enough_for n) root n (tree_of ns)) (sym (c.settle-settled.ensures.splits ∙ c.parts.invariant.splits)) all
 
 pub go-requires-clause-step : goal.go-requires-clause-step
 go-requires-clause-step c =
@@ -109,11 +110,11 @@ pub parts-preserved : goal.parts-preserved
 parts-preserved c =
     let f = c.args.formula.now in
     let spans = c.args.area.now.spans in
-    let b = c.parts.room.budget in
-    let h = c.parts.counts.halved in
-    let parts = c.parts.room.descent.parts in
-    let same = c.parts.invariant.budget in
-    let some : 0 < length parts = some-parts parts (λ e. cc (sym c.if-is_ended.false ∙ c.is_ended.ensures.1 e)) in
+    let b = c.settle-settled.new.room.budget in
+    let h = c.settle-settled.result.counts.halved in
+    let parts = c.settle-settled.new.room.descent.parts in
+    let same = c.settle-settled.ensures.budget ∙ c.parts.invariant.budget in
+    let some = c.settle-settled.ensures.some in
     let asked : c.allowed-allowed.result.halving ≡ nat_lt h (enough_for b)
     = c.allowed-allowed.ensures.halving ∙ ap (λ (n : ℕ). nat_lt h (enough_for n)) (sym same) in
     let chosen : IsTurn f c.part-part.result.now (enough_for b) h c.in-Turn.turn
@@ -123,11 +124,11 @@ parts-preserved c =
     = subst (λ (p : PartView). IsTurn f p (enough_for b) h c.in-Turn.turn) c.part-part.ensures.part chosen in
     let allowed : IsAllowed c.allowed-allowed.result (choice.Turn c.in-Turn.turn)
     = subst (λ (o : Choice). IsAllowed c.allowed-allowed.result o) c.in-Turn.is c.choose.ensures.allowed in
-    let unknowns = c.part-part.ensures.unknowns ∙ c.parts.invariant.way.unknowns in
+    let unknowns = c.part-part.ensures.unknowns ∙ c.settle-settled.ensures.way.unknowns in
     record {
-      way = way-more f spans c.parts.room c.parts.counts c.parts.invariant.way c.go.new.room c.with-counts.result c.in-Turn.turn some turn
-          (within-limits b c.parts.counts c.allowed-allowed.result c.in-Turn.turn asked
-          (λ o. subst (λ (n : ℕ). WithinAll n c.parts.counts) (sym same)
+      way = way-more f spans c.settle-settled.new.room c.settle-settled.result.counts c.settle-settled.ensures.way c.go.new.room c.with-counts.result c.in-Turn.turn some turn
+          (within-limits b c.settle-settled.result.counts c.allowed-allowed.result c.in-Turn.turn asked
+          (λ o. subst (λ (n : ℕ). WithinAll n c.settle-settled.result.counts) (sym same)
           (c.allowed-allowed.ensures.by_halved o, c.allowed-allowed.ensures.limit o)) allowed)
           (λ both. cc (sym c.if-is_used_up.false ∙ c.is_used_up.ensures.1 (both.0, both.1 ∙ same)))
           (record {
@@ -143,5 +144,9 @@ parts-preserved c =
           (subst (λ (j : Judging). IsRoomFor f (length spans) j) (sym c.go.ensures.judging)
           (subst (λ (k : ℕ). IsRoomFor f k c.choose.new.room) unknowns c.choose.ensures.room));
       budget = c.go.ensures.budget ∙ same;
-      splits = c.go.ensures.splits ∙ c.parts.invariant.splits;
+      splits = c.go.ensures.splits ∙ (c.settle-settled.ensures.splits ∙ c.parts.invariant.splits);
     }
+
+pub settle-settled-requires-clause-some : goal.settle-settled-requires-clause-some
+settle-settled-requires-clause-some c =
+    some-parts c.parts.room.descent.parts (λ e. cc (sym c.if-is_ended.false ∙ c.is_ended.ensures.1 e))
