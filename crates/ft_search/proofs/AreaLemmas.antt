@@ -23,7 +23,7 @@ both-true true false e = cc e
 both-true false b e = cc e
 
 -- the numbers of one span are numbers of another
-abbrev Inside : ℤ × ℤ → ℤ × ℤ → Type 0
+abbrev pub Inside : ℤ × ℤ → ℤ × ℤ → Type 0
 Inside s t = (t.0 ≤ℤ s.0) × (s.1 ≤ℤ t.1)
 
 within-inside : (s t : ℤ × ℤ) (y : ℤ) → Inside s t → IsWithin s y → IsWithin t y
@@ -60,7 +60,7 @@ inside-down s t lo e = let (test, is) = cond_some (int_lt s.0 lo && int_le lo s.
     so : (a b c : ℤ) → (int_lt a b ≡ true) × (int_le b c ≡ true) → (a ≤ℤ b) × (c ≤ℤ c)
     so a b c h = let l = h.0 in (grind (arith, ints, l), omega (arith, ints))
 
-inside-narrowed : (g c : ℤ) (s t : ℤ × ℤ) → narrowed g c s ≡ Some t → Inside t s
+pub inside-narrowed : (g c : ℤ) (s t : ℤ × ℤ) → narrowed g c s ≡ Some t → Inside t s
 inside-narrowed g c s t e = elim (cases_Bool (int_lt (pos 0) g)) [
   | inl up ↦ inside-up s t _ (rw up at e)
   | inr other ↦ elim (cases_Bool (int_lt g (pos 0))) [
@@ -68,6 +68,29 @@ inside-narrowed g c s t e = elim (cases_Bool (int_lt (pos 0) g)) [
     | inr none ↦ cc (rw (other, none) at e)
   ]
 ]
+
+pub nonempty-narrowed : (g c : ℤ) (s t : ℤ × ℤ) → narrowed g c s ≡ Some t → t.0 ≤ℤ t.1
+nonempty-narrowed g c s t e = elim (cases_Bool (int_lt (pos 0) g)) [
+  | inl up ↦ by-up s t _ (rw up at e)
+  | inr other ↦ elim (cases_Bool (int_lt g (pos 0))) [
+    | inl down ↦ by-down s t _ (rw (other, down) at e)
+    | inr none ↦ cc (rw (other, none) at e)
+  ]
+]
+  where
+    first : (a b c : ℤ) → (int_le a b ≡ true) × (int_lt b c ≡ true) → a ≤ℤ b
+    first a b c h = let r = h.0 in grind (arith, ints, r)
+
+    second : (a b c : ℤ) → (int_lt a b ≡ true) × (int_le b c ≡ true) → b ≤ℤ c
+    second a b c h = let r = h.1 in grind (arith, ints, r)
+
+    by-up : (s t : ℤ × ℤ) (hi : ℤ) → up_to s hi ≡ Some t → t.0 ≤ℤ t.1
+    by-up s t hi e = let (test, is) = cond_some (int_le s.0 hi && int_lt hi s.1) (s.0, hi) t e in
+        subst (λ (t : ℤ × ℤ). t.0 ≤ℤ t.1) is (first s.0 hi s.1 (both-true (int_le s.0 hi) (int_lt hi s.1) test))
+
+    by-down : (s t : ℤ × ℤ) (lo : ℤ) → down_to s lo ≡ Some t → t.0 ≤ℤ t.1
+    by-down s t lo e = let (test, is) = cond_some (int_lt s.0 lo && int_le lo s.1) (lo, s.1) t e in
+        subst (λ (t : ℤ × ℤ). t.0 ≤ℤ t.1) is (second s.0 lo s.1 (both-true (int_lt s.0 lo) (int_le lo s.1) test))
 
 module _ (f : FormulaView) (spans : List (ℤ × ℤ)) (x : ℕ → ℤ) where
   pub children-inside : (p : PartView) (n : CertNode) (ps : List PartView) → NodeHolds f p n → AreInside spans x (p ∷ ps)

@@ -1,6 +1,12 @@
 pub mod AreaLemmas
 pub mod BudgetLemmas
+pub mod CopyLemmas
 pub mod HalvingLemmas
+pub mod NarrowLemmas
+pub mod PointLemmas
 pub mod ReadingLemmas
+pub mod SizeLemmas
+pub mod StateLemmas
+pub mod StayingLemmas
 pub mod TurnLemmas
 pub mod WalkLemmas

@@ -20,7 +20,7 @@ use Rattle.ft_search.specs.declared.turns.Turn.{Turn}
 use Rattle.ft_search.specs.meaning.Spent.{IsLawful, IsSpentBy, IsUnsettled, by_law, halving_at, halvings_in, open_parts, split_at}
 use Rattle.ft_search.specs.meaning.Spent.{splits_in}
 use Rattle.ft_search.specs.searching.Kept.{IsEvidence, node_of, nodes_by}
-use Rattle.ft_search.specs.searching.Turn.{IsTurn, halvings_by, splits_by}
+use Rattle.ft_search.specs.searching.Turn.{IsTurn, halvings_by, splits_by, tightens_by}
 use Rattle.ft_search.specs.searching.Walk.{AreInside, IsWalk, left_by}
 use Rattle.ft_search.proofs.AreaLemmas.{children-inside}
 
@@ -146,7 +146,7 @@ module _ (f : FormulaView) where
       let (a, b) = placed-push (children f p m ++ ws) ns n q rest e in (ap (λ (es : List Placed). placed p m ∷ es) a, b)
 
   module _ (enough : ℕ) (p : PartView) where
-    pub starts : IsWalk f enough p [] (p ∷ []) 0 0
+    pub starts : IsWalk f enough p [] (p ∷ []) 0 0 0
     starts = record {
       each = each-none (by_law f enough);
       left = refl;
@@ -157,7 +157,7 @@ module _ (f : FormulaView) where
       inside = λ x. ((λ area. area), tt);
     }
 
-    module _ (ns : List CertNode) (parts : List PartView) (used halved : ℕ) (w : IsWalk f enough p ns parts used halved) where
+    module _ (ns : List CertNode) (parts : List PartView) (used halved tight : ℕ) (w : IsWalk f enough p ns parts used halved tight) where
       row : placed_of f p (tree_of ns) ≡ placed_by f (p ∷ []) ns
       row = sym (append-nil (placed_of f p (tree_of ns))) ∙ placed-row (p ∷ []) ns
 
@@ -189,12 +189,12 @@ module _ (f : FormulaView) where
         unsettled = subst (λ (h : ℕ). IsUnsettled f enough h (first_of parts)) (sym (ap (halvings_in f) row ∙ w.halvings)) unsettled;
       }
 
-      pub goes-on : (t : Turn) (next : List PartView) (more : List CertNode) (used' halved' : ℕ) → 0 < length parts
+      pub goes-on : (t : Turn) (next : List PartView) (more : List CertNode) (used' halved' tight' : ℕ) → 0 < length parts
           → IsTurn f (first_of parts) enough halved t → more ≡ ns ++ node_of f t.node ∷ []
           → next ≡ parts_by (first_of parts) t.step ++ rest_of parts → used' ≡ used + splits_by t.step → halved'
-          ≡ halved + halvings_by t.step
-          → IsWalk f enough p more next used' halved'
-      goes-on t next more used' halved' some turn pushed moved splits halves =
+          ≡ halved + halvings_by t.halves
+          → tight' ≡ tight + tightens_by t.step → IsWalk f enough p more next used' halved' tight'
+      goes-on t next more used' halved' tight' some turn pushed moved splits halves tightens =
           let q = first_of parts in
           let n = node_of f t.node in
           let es = placed_by f (p ∷ []) ns in
@@ -212,7 +212,7 @@ module _ (f : FormulaView) where
                 ∙ (λ i. w.halvings i + turn.halves i) ∙ sym halves;
             count = counted t.step (ap length pushed ∙ length-append ns (n ∷ [])) (ap length moved) (ap length (parts-are parts some))
                 w.count
-                ∙ sym (λ i. 2 * splits i + 1 + halves i);
+                ∙ sym (λ i. 2 * splits i + 1 + tightens i);
             inside = λ x. subst (λ (ps : List PartView). AreInside p.spans x ps) ((λ i. turn.parts i ++ rest_of parts) ∙ sym moved)
                 (children-inside f p.spans x q n (rest_of parts) turn.holds
                 (subst (λ (ps : List PartView). AreInside p.spans x ps) (parts-are parts some) (w.inside x)));
@@ -220,8 +220,8 @@ module _ (f : FormulaView) where
         where
           -- each node that splits leaves one part more, and each that closes one less
           counted : (s : Step) → length more ≡ length ns + 1 → length next ≡ length (parts_by (first_of parts) s ++ rest_of parts)
-              → length parts ≡ length (first_of parts ∷ rest_of parts) → length ns + length parts ≡ 2 * used + 1 + halved
-              → length more + length next ≡ 2 * (used + splits_by s) + 1 + (halved + halvings_by s)
+              → length parts ≡ length (first_of parts ∷ rest_of parts) → length ns + length parts ≡ 2 * used + 1 + tight
+              → length more + length next ≡ 2 * (used + splits_by s) + 1 + (tight + tightens_by s)
           counted step.Close m n l before = omega (arith, m, n, l, before)
           counted (step.Cut u low high) m n l before = omega (arith, m, n, l, before)
           counted (step.Decide a) m n l before = omega (arith, m, n, l, before)

@@ -23,7 +23,7 @@ pub(crate) struct Single {
 }
 
 /// Whether a span has at most half of the values of another.
-fn is_half(old: Span, new: Span) -> bool
+pub(crate) fn is_half(old: Span, new: Span) -> bool
     ensures { result ≡ is_half old new }
 {
     2 * (width(new) + 1) <= width(old) + 1

@@ -15,7 +15,7 @@ pub(crate) enum KeptNode {
         atom: u32,
     },
     /// One part: the unknown within the span that this literal of the atom and the bounds of its other unknowns leave it.
-    Halved {
+    Tightened {
         unknown: u32,
         atom: u32,
         value: bool,

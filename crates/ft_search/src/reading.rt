@@ -108,7 +108,7 @@ fn node_of(alloc: Global, formula: &Formula, kept: KeptNode) -> Result<CertNode,
         KeptNode::Unsolved => Ok(CertNode::L),
         KeptNode::Cut { unknown, value } => Ok(CertNode::R { unknown, value }),
         KeptNode::Case { atom } => Ok(CertNode::C { atom }),
-        KeptNode::Halved {
+        KeptNode::Tightened {
             unknown,
             atom,
             value,

@@ -1,16 +1,20 @@
 // The search: nodes in prefix order, each at the first of the parts that wait.
 
-ghost use Rattle.std.specs.Prelude.{◌≡◌, ◌≤◌, ◌<◌, ◌+◌, ◌*◌, ◌↔◌, ℕ, [], ◌∷◌, ◌++◌, length, IsTrue};
+ghost use Rattle.std.specs.Prelude.{◌≡◌, ◌≤◌, ◌<◌, ◌+◌, ◌^◌, ◌↔◌, ℕ, ℤ, [], ◌∷◌, ◌++◌, length, slice_set, IsTrue, All};
+ghost use Rattle.ft_linear.specs.meaning.Form.{InArea, IsSmall, values_at};
 ghost use Rattle.ft_linear.specs.meaning.Formula.{IsOver};
 ghost use Rattle.ft_cert.specs.walk.Steps.{CanStep, parts_by, room_by};
 ghost use Rattle.ft_cert.specs.walk.Waiting.{first_of, rest_of};
-ghost use Rattle.ft_search.specs.meaning.Spent.{enough_for};
 ghost use Rattle.ft_search.specs.searching.Space.{IsFound, IsFreshFor};
-ghost use Rattle.ft_search.specs.searching.Turn.{halvings_by, splits_by};
+ghost use Rattle.ft_search.specs.searching.Turn.{splits_by};
 
+use crate::counts::Counts;
+use crate::law::search_laws;
 use crate::room::Room;
+use crate::settling::settle;
 use crate::turns::{Choice, Turn, choose};
-use ft_cert::Step;
+use ft_base::Span;
+use ft_cert::{Descent, Step};
 use ft_linear::{Area, Formula};
 
 /// What a search found.
@@ -36,42 +40,8 @@ fn is_used_up(step: Step, used: u32, splits: u32) -> bool
     }
 }
 
-/// The splits, with those of one more step.
-fn count(step: Step, used: u32) -> u32
-    requires { used < 1000000 }
-    ensures { result ≡ used + splits_by step }
-{
-    match step {
-        Step::Close => used,
-        Step::Cut { .. } => used + 1,
-        Step::Decide { .. } => used + 1,
-        Step::Tighten { .. } => used,
-    }
-}
-
-/// The steps that halve an unknown, with one more step.
-fn count_halved(step: Step, halved: u32) -> u32
-    requires { halved < 1000000 }
-    ensures { result ≡ halved + halvings_by step }
-{
-    match step {
-        Step::Close => halved,
-        Step::Cut { .. } => halved,
-        Step::Decide { .. } => halved,
-        Step::Tighten { .. } => halved + 1,
-    }
-}
-
-/// After so many steps that halve an unknown none is asked for.
-fn enough_for(splits: u32) -> u32
-    requires { splits ≤ 200000 }
-    ensures { result ≡ enough_for splits }
-{
-    2 * splits + 96
-}
-
 /// Keeps a node and takes its step.
-fn go(room: &mut Room, turn: Turn)
+pub(crate) fn go(room: &mut Room, turn: Turn)
     requires waits { 0 < length room.old.descent.parts }
     requires step { CanStep (first_of room.old.descent.parts) turn.step }
     requires steps { room_by turn.step ≤ room.old.descent.spare }
@@ -84,9 +54,70 @@ fn go(room: &mut Room, turn: Turn)
     ensures spare { room.new.nodes.spare + 1 ≡ room.old.nodes.spare }
     ensures judging { room.new.judging ≡ room.old.judging }
     ensures splits { room.new.splits ≡ room.old.splits }
+    ensures budget { room.new.budget ≡ room.old.budget }
 {
     room.descent.take(turn.step);
     room.nodes.push(turn.node);
+}
+
+/// The span of one value.
+fn one_value(value: i64) -> Span
+    requires { IsSmall value }
+    ensures { result ≡ (value, value) }
+{
+    match Span::new(value, value) {
+        Some(span) => span,
+        None => unreachable!(),
+    }
+}
+
+/// Gives an unknown one value alone.
+fn fix(descent: &mut Descent, unknown: u32, value: i64)
+    requires some { 0 < length descent.old.parts }
+    requires unknown { unknown < descent.old.unknowns }
+    requires room { 0 < descent.old.spare }
+    requires small { IsSmall value }
+    ensures some { 0 < length descent.new.parts }
+    ensures unknowns { descent.new.unknowns ≡ descent.old.unknowns }
+    ensures room { descent.old.spare ≤ descent.new.spare + 1 }
+    ensures within { unknown < length (first_of descent.old.parts).spans }
+    ensures spans { (first_of descent.new.parts).spans ≡ slice_set (first_of descent.old.parts).spans unknown (value, value) }
+{
+    let _part = descent.part();
+    let span = one_value(value);
+    descent.take(Step::Tighten { unknown, span });
+}
+
+/// Goes to the part of one point alone.
+fn go_to_point(descent: &mut Descent, point: &[i64])
+    requires some { 0 < length descent.old.parts }
+    requires unknowns { descent.old.unknowns ≡ length point.now }
+    requires few { length point.now < 2 ^ 32 }
+    requires room { length point.now ≤ descent.old.spare }
+    requires small { All IsSmall point.now }
+    ensures some { 0 < length descent.new.parts }
+    ensures point { (x : ℕ → ℤ) → InArea (first_of descent.new.parts).spans x → (u : ℕ) → u < length point.now
+        → x u ≡ values_at point.now u }
+{
+    let count = point.len() as u32;
+    for unknown in 0..count {
+        fix(descent, unknown, point[unknown as usize]);
+    }
+}
+
+/// The same in a room.
+fn go_to_found(room: &mut Room)
+    requires some { 0 < length room.old.descent.parts }
+    requires unknowns { room.old.descent.unknowns ≡ length room.old.judging.point.items }
+    requires few { length room.old.judging.point.items < 2 ^ 32 }
+    requires room { length room.old.judging.point.items ≤ room.old.descent.spare }
+    requires small { All IsSmall room.old.judging.point.items }
+    ensures some { 0 < length room.new.descent.parts }
+    ensures point { (x : ℕ → ℤ) → InArea (first_of room.new.descent.parts).spans x → (u : ℕ)
+        → u < length room.old.judging.point.items → x u ≡ values_at room.old.judging.point.items u }
+    ensures splits { room.new.splits ≡ room.old.splits }
+{
+    go_to_point(&mut room.descent, room.judging.point.as_slice());
 }
 
 /// Searches for evidence that no point of the area satisfies the formula, or for a point that does, with at most the splits of the
@@ -97,23 +128,35 @@ pub fn search(formula: &Formula, area: &Area, room: &mut Room) -> Found
     ensures found { IsFound formula.now area.now.spans room.new result }
     ensures splits { room.new.splits ≡ room.old.splits }
 {
-    let splits = room.splits;
-    let enough = enough_for(splits);
-    let mut used = 0;
-    let mut halved = 0;
+    search_laws();
+    let _root = formula.root();
+    let budget = room.budget;
+    let mut counts = Counts::NONE;
     'parts: loop {
         if room.descent.is_ended() {
             return Found::Closed;
         }
-        let asked = halved < enough;
-        match choose(formula, room.descent.part(), &mut room.judging, asked) {
+        let settled = settle(formula, area, room, counts);
+        let allowed = settled.counts.allowed(budget);
+        let part = room.descent.part();
+        match choose(
+            formula,
+            part,
+            &mut room.judging,
+            settled.truth,
+            allowed,
+            room.strict,
+        ) {
             Choice::Met => return Found::Point,
+            Choice::Found => {
+                go_to_found(room);
+                return Found::Point;
+            }
             Choice::Turn(turn) => {
-                if is_used_up(turn.step, used, splits) {
+                if is_used_up(turn.step, settled.counts.used, budget) {
                     return Found::Spent;
                 }
-                used = count(turn.step, used);
-                halved = count_halved(turn.step, halved);
+                counts = settled.counts.with(&turn);
                 go(room, turn);
             }
         }

@@ -21,7 +21,7 @@ node_of f kept.Refuted = node.F
 node_of f kept.Unsolved = node.L
 node_of f (kept.Cut u v) = node.R u v
 node_of f (kept.Case a) = node.C a
-node_of f (kept.Halved u a s) = node.T u (single_lines a s u (form_of f a))
+node_of f (kept.Tightened u a s) = node.T u (single_lines a s u (form_of f a))
 
 abbrev pub nodes_by : FormulaView → List KeptNode → List CertNode
 nodes_by f ks = map (λ k. node_of f k) ks

@@ -26,6 +26,10 @@ pub record IsSingle (f : FormulaView) (p : PartView) (s : Single) : Type 0 where
   pub tightens : Tightens f p s.unknown (single_lines s.atom s.value s.unknown (form_of f s.atom)) s.span
   pub half : is_half (span_at p.spans s.unknown) s.span ≡ true
 
+-- the literal's line leaves an unknown of the part this span
+abbrev pub IsTight : FormulaView → PartView → Single → Type 0
+IsTight f p s = Tightens f p s.unknown (single_lines s.atom s.value s.unknown (form_of f s.atom)) s.span
+
 -- no unknown is halved by this literal
 abbrev pub NoneBy : FormulaView → PartView → ℕ → Bool → Type 0
 NoneBy f p a s = (u : ℕ) → Halves f p a s u → ⊥

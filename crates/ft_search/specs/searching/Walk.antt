@@ -20,12 +20,12 @@ AreInside spans x [] = Unit {0}
 AreInside spans x (p ∷ ps) = (InArea p.spans x → InArea spans x) × AreInside spans x ps
 
 -- lawful nodes from this part on, after which these parts wait
-pub record IsWalk (f : FormulaView) (enough : ℕ) (p : PartView) (ns : List CertNode) (waiting : List PartView) (used halved : ℕ) : Type 0
-  where
-    pub each : Each (by_law f enough) (placed_by f (p ∷ []) ns)
-    pub left : left_by f (p ∷ []) ns ≡ waiting
-    pub named : map (λ (e : Placed). e.node) (placed_by f (p ∷ []) ns) ≡ ns
-    pub splits : splits_in (placed_by f (p ∷ []) ns) ≡ used
-    pub halvings : halvings_in f (placed_by f (p ∷ []) ns) ≡ halved
-    pub count : length ns + length waiting ≡ 2 * used + 1 + halved
-    pub inside : (x : ℕ → ℤ) → AreInside p.spans x waiting
+pub record IsWalk (f : FormulaView) (enough : ℕ) (p : PartView) (ns : List CertNode) (waiting : List PartView) (used halved tight : ℕ)
+    : Type 0 where
+  pub each : Each (by_law f enough) (placed_by f (p ∷ []) ns)
+  pub left : left_by f (p ∷ []) ns ≡ waiting
+  pub named : map (λ (e : Placed). e.node) (placed_by f (p ∷ []) ns) ≡ ns
+  pub splits : splits_in (placed_by f (p ∷ []) ns) ≡ used
+  pub halvings : halvings_in f (placed_by f (p ∷ []) ns) ≡ halved
+  pub count : length ns + length waiting ≡ 2 * used + 1 + tight
+  pub inside : (x : ℕ → ℤ) → AreInside p.spans x waiting
