@@ -11,7 +11,6 @@ pub mod CoverSpans
 pub mod CoverageLemmas
 pub mod FormLemmas
 pub mod FormulaLemmas
-pub mod GapLemmas
 pub mod GatherLemmas
 pub mod GoodLemmas
 pub mod KernelLemmas
@@ -20,11 +19,13 @@ pub mod Lists
 pub mod LocalLemmas
 pub mod MakingLemmas
 pub mod MarkLemmas
+pub mod MarkedLemmas
 pub mod MergeLemmas
 pub mod MoveLemmas
 pub mod NamingLemmas
 pub mod NumberLemmas
 pub mod ObligedLemmas
+pub mod OverLemmas
 pub mod PartGood
 pub mod ReadLemmas
 pub mod ReadsThere
@@ -32,6 +33,7 @@ pub mod RenumberLemmas
 pub mod RisingLemmas
 pub mod ShapeLemmas
 pub mod ShownLemmas
+pub mod SpanningLemmas
 pub mod TableLemmas
 pub mod UnknownLemmas
 pub mod WholeFormulas
