@@ -13,26 +13,26 @@ use Rattle.ft_core.specs.declared.tables.Var.{Var}
 use Rattle.ft_core.specs.declared.tables.Side.TheVariants as side
 use Rattle.ft_core.specs.declared.tables.Section.TheVariants as section
 use Rattle.ft_core.specs.meaning.Kinds.{monitored, controlled}
-use Rattle.ft_mean.specs.meaning.Allowed.{Allowed, nat_at}
+use Rattle.ft_mean.specs.meaning.Allowed.{Allowed}
 use Rattle.ft_mean.specs.meaning.Cells.{defined}
 use Rattle.ft_mean.specs.meaning.Fits.{Fits, InputMap, OutputMap, Only, side_reading}
-use Rattle.ft_mean.specs.laws.Laws.{FitsOneTrace, HasOneImage}
-use Rattle.ft_mean.specs.laws.LookLaws.{MemoriesRemember}
-use Rattle.ft_mean.specs.laws.PastLaws.{SameHeld}
-use Rattle.ft_mean.specs.laws.Whole.{RunsAreWhole, ReadsAsWhole, joint}
+use Rattle.ft_mean.specs.laws.Whole.{ReadsAsWhole, joint}
 use Rattle.ft_mean.specs.meaning.Memory.{at_scan, look, memory_at}
 use Rattle.ft_mean.specs.meaning.Past.{held}
 use Rattle.ft_mean.specs.meaning.Proper.{AllProper}
-use Rattle.ft_mean.specs.meaning.Reading.{Reading, Scans, IsVar, reading_of, begun}
+use Rattle.ft_mean.specs.meaning.Reading.{Reading, Scans, IsVar, reading_of, begun, since}
 use Rattle.ft_mean.specs.meaning.Refines.{Refines, Runs, FirstDiffers}
 use Rattle.ft_mean.specs.meaning.Value.{View, truth, value}
 use Rattle.ft_mean.specs.laws.Equations.{evaluation, value-Num}
 use Rattle.ft_core.specs.declared.term.Term.TheVariants.{Num}
 use Rattle.ft_core.specs.meaning.Grids.{Cell}
+use Rattle.ft_core.specs.declared.term.Cond.{Cond}
+use Rattle.ft_worked.specs.Laws.{Laws}
 use Rattle.ft_worked.specs.Made.{IsMadeOf}
 use Rattle.ft_worked.specs.Relay.{relay, vars, tables, is_on, on_thrice}
 use Rattle.ft_worked.specs.Worked.{RelayRefines, LateRelayDiffers}
 use Rattle.ft_mean.specs.laws.ScanTests.{list_is}
+use Rattle.ft_worked.proofs.NoClauses.{all_allowed}
 use Rattle.ft_worked.proofs.MadeLemmas.{Rest, set_of, for_each}
 use Rattle.ft_worked.proofs.ProperTests.{one_of, InRanges, AllOneCell, proper_by_cells}
 
@@ -92,8 +92,7 @@ picked V z false one none e f h = only_one z (pos 0) (subst (λ y. (int_eq z y |
 abbrev on_for : (hold : ℤ) → ℕ → Bool
 on_for hold t = held 0 (λ j. pos (t - j) *ℤ pos 50) hold (λ j. true) t
 
-module _ (hold : ℤ) (rest : Rest (relay hold))
-    (one_trace : FitsOneTrace) (one_image : HasOneImage) (wholes : RunsAreWhole) (remember : MemoriesRemember) (same_held : SameHeld) where
+module _ (L : Laws) (hold : ℤ) (rest : Rest (relay hold)) where
   abbrev S : Tables
   S = set_of (relay hold) rest
 
@@ -102,16 +101,16 @@ module _ (hold : ℤ) (rest : Rest (relay hold))
 
   module _ (h : Scans) (allowed : Allowed S h) where
     pub required : (r : Scans) × Only (Fits S side.Req h) r
-    required = one_trace S proper side.Req h allowed.monitored_list.values
+    required = L.one_trace S proper side.Req h allowed.monitored_list.values
 
     pub input : (i : Scans) × Only (InputMap S h) i
-    input = (one_image S proper).0 h allowed.monitored_list.values
+    input = (L.one_image S proper).0 h allowed.monitored_list.values
 
     pub design : (s : Scans) × Only (Fits S side.Sof input.0) s
-    design = one_trace S proper side.Sof input.0 input.1.is.values
+    design = L.one_trace S proper side.Sof input.0 input.1.is.values
 
     pub output : (c : Scans) × Only (OutputMap S design.0) c
-    output = (one_image S proper).1 design.0 design.1.is.values
+    output = (L.one_image S proper).1 design.0 design.1.is.values
 
     pub runs : Runs S h required.0 input.0 design.0 output.0
     runs = record { allowed = allowed; required = required.1; inputs = input.1; design = design.1; outputs = output.1 }
@@ -120,7 +119,7 @@ module _ (hold : ℤ) (rest : Rest (relay hold))
     ρ = joint S required.0 design.0
 
     pub whole : ReadsAsWhole S h required.0 design.0 ρ
-    whole = wholes S h required.0 input.0 design.0 allowed required.1.is input.1.is design.1.is
+    whole = L.wholes S h required.0 input.0 design.0 allowed required.1.is input.1.is design.1.is
 
     -- both timers are told the same
     same_input : (t : ℕ) → t < length h → ρ t 2 ≡ ρ t 0
@@ -145,19 +144,23 @@ module _ (hold : ℤ) (rest : Rest (relay hold))
     abbrev pub is_on_at : ℕ → Bool
     is_on_at j = int_eq (ρ j 0) (pos 1)
 
-    begun_none : (t : ℕ) → begun S ρ t ≡ 0
-    begun_none zero = refl
-    begun_none (suc t) = begun_none t
+    -- back to scan 0, in periods of 50 milliseconds
+    abbrev span : ℕ → ℕ → ℤ
+    span t j = pos (t - j) *ℤ pos 50
+
+    timer_by : (wait : ℤ) (c : Cond) (t : ℕ) → held (begun S ρ t) (λ j. since S ρ j t) wait
+        (λ j. truth (at_scan S ρ (memory_at S ρ) j) c) t
+        ≡ held 0 (span t) wait (λ j. truth (at_scan S ρ (memory_at S ρ) j) c) t
+    timer_by wait c t = λ i. held (L.begun_first S ρ t i) (λ j. L.since_periods S ρ j t i) wait
+        (λ j. truth (at_scan S ρ (memory_at S ρ) j) c) t
 
     first_timer : (t : ℕ) → t < length h → memory_at S ρ 0 t ≡ held 0 (λ j. pos (t - j) *ℤ pos 50) (pos 100) is_on_at t
-    first_timer t below = remember S ρ 0 t ∙ ap (λ from. held from (λ j. pos (t - j) *ℤ pos 50) (pos 100)
-        (λ j. truth (at_scan S ρ (memory_at S ρ) j) (is_on 0)) t) (begun_none t)
-        ∙ same_held 0 (λ j. pos (t - j) *ℤ pos 50) (pos 100) _ is_on_at t (λ j low. simp evaluation)
+    first_timer t below = L.remember S ρ 0 t ∙ timer_by (pos 100) (is_on 0) t
+        ∙ L.same_held 0 (span t) (pos 100) _ is_on_at t (λ j low. simp evaluation)
 
     second_timer : (t : ℕ) → t < length h → memory_at S ρ 1 t ≡ held 0 (λ j. pos (t - j) *ℤ pos 50) hold is_on_at t
-    second_timer t below = remember S ρ 1 t ∙ ap (λ from. held from (λ j. pos (t - j) *ℤ pos 50) hold
-        (λ j. truth (at_scan S ρ (memory_at S ρ) j) (is_on 2)) t) (begun_none t)
-        ∙ same_held 0 (λ j. pos (t - j) *ℤ pos 50) hold _ is_on_at t
+    second_timer t below = L.remember S ρ 1 t ∙ timer_by hold (is_on 2) t
+        ∙ L.same_held 0 (span t) hold _ is_on_at t
         (λ j low. simp evaluation (ap (λ z. int_eq z (pos 1)) (same_input j (omega (arith, low, below)))))
 
     pub relay_at : (t : ℕ) → t < length h → side_reading S side.Req required.0 t 1
@@ -178,52 +181,45 @@ module _ (hold : ℤ) (rest : Rest (relay hold))
         (sym is.1 ∙ sym (ap (λ (u : Var). controlled 0 u) (same_Some _ v is.0))))
     only_relay P one (suc (suc (suc (suc x)))) v is = absurd (none-some v is.0)
 
-pub refines : FitsOneTrace → HasOneImage → RunsAreWhole → MemoriesRemember → SameHeld → RelayRefines
-refines one_trace one_image wholes remember same_held S is = for_each (relay (pos 100)) S is Refines (λ rest h allowed. (
+pub refines : Laws → RelayRefines
+refines L S is = for_each (relay (pos 100)) S is Refines (λ rest h allowed. (
   _,
   _,
   _,
   _,
-  runs (pos 100) rest one_trace one_image wholes remember same_held h allowed,
-  λ t below x v of. only_relay (pos 100) rest one_trace one_image wholes remember same_held h allowed
+  runs L (pos 100) rest h allowed,
+  λ t below x v of. only_relay L (pos 100) rest h allowed
       (λ x. side_reading (set_of (relay (pos 100)) rest) side.Req
-      (required (pos 100) rest one_trace one_image wholes remember same_held h allowed).0 t x
+      (required L (pos 100) rest h allowed).0 t x
       ≡ reading_of (set_of (relay (pos 100)) rest) controlled
-      (output (pos 100) rest one_trace one_image wholes remember same_held h allowed).0 t x)
-      (relay_at (pos 100) rest one_trace one_image wholes remember same_held h allowed t below
-      ∙ sym (put_out_at (pos 100) rest one_trace one_image wholes remember same_held h allowed t below)) x v of,
+      (output L (pos 100) rest h allowed).0 t x)
+      (relay_at L (pos 100) rest h allowed t below
+      ∙ sym (put_out_at L (pos 100) rest h allowed t below)) x v of,
 ))
 
 -- the switch is on at each scan, so a timer is at its hold once that is over
-module _ (rest : Rest (relay (pos 150)))
-    (one_trace : FitsOneTrace) (one_image : HasOneImage) (wholes : RunsAreWhole) (remember : MemoriesRemember) (same_held : SameHeld) where
+module _ (L : Laws) (rest : Rest (relay (pos 150))) where
   abbrev late : Tables
   late = set_of (relay (pos 150)) rest
 
   allowed : Allowed late on_thrice
-  allowed = record {
-    monitored_list = record { nonempty = λ e. nonempty e; values = list_is late monitored on_thrice refl };
-    clauses = λ t below. clear t;
-  }
+  allowed = all_allowed late refl refl refl on_thrice
+      (record { nonempty = λ e. nonempty e; values = list_is late monitored on_thrice refl })
     where
       nonempty : on_thrice ≡ [] → ⊥
       nonempty e = cc
 
-      clear : (t : ℕ) → nat_at late (reading_of late monitored on_thrice) t ≡ true
-      clear zero = refl
-      clear (suc t) = refl
-
   -- the switch is on at each scan of the list
-  on_at : (t : ℕ) → t < 3 → is_on_at (pos 150) rest one_trace one_image wholes remember same_held on_thrice allowed t ≡ true
+  on_at : (t : ℕ) → t < 3 → is_on_at L (pos 150) rest on_thrice allowed t ≡ true
   on_at t below = ap (λ z. int_eq z (pos 1)) (given t below ∙ is_one t below)
     where
-      given : (t : ℕ) → t < 3 → ρ (pos 150) rest one_trace one_image wholes remember same_held on_thrice allowed t 0
+      given : (t : ℕ) → t < 3 → ρ L (pos 150) rest on_thrice allowed t 0
           ≡ reading_of late monitored on_thrice t 0
-      given t below = (whole (pos 150) rest one_trace one_image wholes remember same_held on_thrice allowed).as_required t 0 _ below
+      given t below = (whole L (pos 150) rest on_thrice allowed).as_required t 0 _ below
           (refl, refl)
-          ∙ (required (pos 150) rest one_trace one_image wholes remember same_held on_thrice allowed).1.is.same_given t 0 _
+          ∙ (required L (pos 150) rest on_thrice allowed).1.is.same_given t 0 _
           (subst (λ n. t < n)
-          (sym (required (pos 150) rest one_trace one_image wholes remember same_held on_thrice allowed).1.is.lengths) below) (refl, refl)
+          (sym (required L (pos 150) rest on_thrice allowed).1.is.lengths) below) (refl, refl)
 
       is_one : (t : ℕ) → t < 3 → reading_of late monitored on_thrice t 0 ≡ pos 1
       is_one zero below = refl
@@ -232,30 +228,30 @@ module _ (rest : Rest (relay (pos 150)))
       is_one (suc (suc (suc t))) below = absurd (omega (arith, below))
 
   relay_on : (t : ℕ) (below : t < 3) → side_reading late side.Req
-      (required (pos 150) rest one_trace one_image wholes remember same_held on_thrice allowed).0 t 1
+      (required L (pos 150) rest on_thrice allowed).0 t 1
       ≡ cond (on_for (pos 100) t) (pos 1) (pos 0)
-  relay_on t below = relay_at (pos 150) rest one_trace one_image wholes remember same_held on_thrice allowed t below
-      ∙ ap (λ b. cond b (pos 1) (pos 0)) (same_held 0 (λ j. pos (t - j) *ℤ pos 50) (pos 100) _ (λ j. true) t
+  relay_on t below = relay_at L (pos 150) rest on_thrice allowed t below
+      ∙ ap (λ b. cond b (pos 1) (pos 0)) (L.same_held 0 (λ j. pos (t - j) *ℤ pos 50) (pos 100) _ (λ j. true) t
       (λ j low. on_at j (omega (arith, low, below))))
 
   output_on : (t : ℕ) (below : t < 3) → reading_of late controlled
-      (output (pos 150) rest one_trace one_image wholes remember same_held on_thrice allowed).0 t 1
+      (output L (pos 150) rest on_thrice allowed).0 t 1
       ≡ cond (on_for (pos 150) t) (pos 1) (pos 0)
-  output_on t below = put_out_at (pos 150) rest one_trace one_image wholes remember same_held on_thrice allowed t below
-      ∙ ap (λ b. cond b (pos 1) (pos 0)) (same_held 0 (λ j. pos (t - j) *ℤ pos 50) (pos 150) _ (λ j. true) t
+  output_on t below = put_out_at L (pos 150) rest on_thrice allowed t below
+      ∙ ap (λ b. cond b (pos 1) (pos 0)) (L.same_held 0 (λ j. pos (t - j) *ℤ pos 50) (pos 150) _ (λ j. true) t
       (λ j low. on_at j (omega (arith, low, below))))
 
   pub differs : FirstDiffers late on_thrice 2
   differs = record {
-    r = (required (pos 150) rest one_trace one_image wholes remember same_held on_thrice allowed).0;
-    i = (input (pos 150) rest one_trace one_image wholes remember same_held on_thrice allowed).0;
-    s = (design (pos 150) rest one_trace one_image wholes remember same_held on_thrice allowed).0;
-    c = (output (pos 150) rest one_trace one_image wholes remember same_held on_thrice allowed).0;
-    runs = runs (pos 150) rest one_trace one_image wholes remember same_held on_thrice allowed;
+    r = (required L (pos 150) rest on_thrice allowed).0;
+    i = (input L (pos 150) rest on_thrice allowed).0;
+    s = (design L (pos 150) rest on_thrice allowed).0;
+    c = (output L (pos 150) rest on_thrice allowed).0;
+    runs = runs L (pos 150) rest on_thrice allowed;
     in_list = omega arith;
-    same_before = λ t below x v of. only_relay (pos 150) rest one_trace one_image wholes remember same_held on_thrice allowed
-        (λ x. side_reading late side.Req (required (pos 150) rest one_trace one_image wholes remember same_held on_thrice allowed).0 t x
-        ≡ reading_of late controlled (output (pos 150) rest one_trace one_image wholes remember same_held on_thrice allowed).0 t x)
+    same_before = λ t below x v of. only_relay L (pos 150) rest on_thrice allowed
+        (λ x. side_reading late side.Req (required L (pos 150) rest on_thrice allowed).0 t x
+        ≡ reading_of late controlled (output L (pos 150) rest on_thrice allowed).0 t x)
         (same t below) x v of;
     variable = 1;
     declared = _;
@@ -264,8 +260,8 @@ module _ (rest : Rest (relay (pos 150)))
   }
     where
       same : (t : ℕ) → t < 2
-          → side_reading late side.Req (required (pos 150) rest one_trace one_image wholes remember same_held on_thrice allowed).0 t 1
-          ≡ reading_of late controlled (output (pos 150) rest one_trace one_image wholes remember same_held on_thrice allowed).0 t 1
+          → side_reading late side.Req (required L (pos 150) rest on_thrice allowed).0 t 1
+          ≡ reading_of late controlled (output L (pos 150) rest on_thrice allowed).0 t 1
       same zero below = relay_on 0 (omega arith) ∙ sym (output_on 0 (omega arith))
       same (suc zero) below = relay_on 1 (omega arith) ∙ sym (output_on 1 (omega arith))
       same (suc (suc t)) below = absurd (omega (arith, below))
@@ -273,6 +269,6 @@ module _ (rest : Rest (relay (pos 150)))
       apart : pos 1 ≡ pos 0 → ⊥
       apart e = cc
 
-pub late_differs : FitsOneTrace → HasOneImage → RunsAreWhole → MemoriesRemember → SameHeld → LateRelayDiffers
-late_differs one_trace one_image wholes remember same_held S is =
-    for_each (relay (pos 150)) S is (λ T. FirstDiffers T on_thrice 2) (λ rest. differs rest one_trace one_image wholes remember same_held)
+pub late_differs : Laws → LateRelayDiffers
+late_differs L S is =
+    for_each (relay (pos 150)) S is (λ T. FirstDiffers T on_thrice 2) (λ rest. differs L rest)

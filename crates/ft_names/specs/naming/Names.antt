@@ -1,5 +1,5 @@
 -- What the map of the names stands for.
-use Rattle.std.specs.Prelude.{ℕ, ◌<◌, ◌^◌, map, length}
+use Rattle.std.specs.Prelude.{◌<◌, ◌^◌, map, length}
 use Rattle.ft_names.specs.meaning.Declared.{Listing}
 use Rattle.ft_names.specs.declared.names.Names.TheInside.{Inside}
 
