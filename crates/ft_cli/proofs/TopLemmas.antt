@@ -15,28 +15,72 @@ use Rattle.ft_port.specs.Fetching.{HasFetchCause, IsTooLong}
 use Rattle.ft_port.specs.declared.fetching.FetchError.{FetchError}
 use Rattle.ft_port.specs.declared.fetching.FetchError.TheVariants as fetching
 use Rattle.ft_tree.specs.declared.tree.Tree.{Tree}
-use Rattle.ft_parse.specs.meaning.Parse as tree_spelling
-use Rattle.ft_parse.specs.meaning.Parse.{IsFault}
+use Rattle.ft_parse.specs.meaning.Parse.{IsFault, Reads, Spells}
 use Rattle.ft_parse.specs.declared.fault.ParseFault.{ParseFault}
-use Rattle.ft_parse.specs.declared.fault.ParseFault.TheVariants as fault
-use Rattle.ft_small.specs.meaning.Laws.{SpellsOneSet}
+use Rattle.ft_parse.specs.declared.fault.ParseFault.TheVariants as parse
+use Rattle.ft_build.specs.declared.parts.Parts.{Parts}
+use Rattle.ft_blocks.specs.meaning.Faults.{HasNoBlockFault}
+use Rattle.ft_admit.specs.laws.OneSet.{OneSet}
+use Rattle.ft_admit.specs.meaning.SetFaults.{IsSetFault}
+use Rattle.ft_admit.specs.meaning.TreeFaults.{HasNoFault}
+use Rattle.ft_admit.specs.meaning.Trees.{set_of_tree}
+use Rattle.ft_admit.specs.declared.set_fault.SetFault.{SetFault}
+use Rattle.ft_admit.specs.declared.set_fault.SetFault.TheVariants as set
+use Rattle.ft_small.specs.meaning.SetOf.{IsSetOf}
 use Rattle.ft_small.specs.meaning.Finding.{HasPoints}
-use Rattle.ft_cli.specs.meaning.Judgement.{IsJudgement, IsPrint}
+use Rattle.ft_cli.specs.meaning.Judgement.{IsJudgement, IsPrint, IsRefused}
 use Rattle.ft_cli.specs.meaning.Report.{status_of}
 use Rattle.ft_cli.specs.Top.{Command, verify, print, file_of, Names, NoOthers, set_limit, Use, IsRead, CanBeRead, NamesKnown, HasRefutation}
 use Rattle.ft_cli.specs.Top.{Means, IsOutcome, usage, read_fault, too_long, no_memory, content, HasStatus, HasHeadline, CanBeJudged}
 use Rattle.ft_cli.specs.Top.{CanBePrinted, IsVerdictOn, IsComplete, PrintsAll}
-use Rattle.ft_cli.specs.stages.Command.{report_on_error, report_on_fault}
+use Rattle.ft_cli.specs.stages.Command.{report_on_error, report_on_fault, report_on_unread}
 use Rattle.ft_cli.specs.declared.report.Report.{Report}
 use Rattle.ft_cli.specs.declared.report.Report.TheVariants as report
 use Rattle.ft_cli.specs.declared.ended.Ended.{Ended}
 
 -- the report on a text that isn't read tells why
 pub unread : (bytes : List ℕ) (f : ParseFault) → IsFault bytes f
-    → ((tree : Tree) → tree_spelling.Spells bytes tree → tree_spelling.Reads (Err f) tree) → IsPrint bytes (report_on_fault f)
-unread bytes (fault.Syntax place) is only = record { refusal = is; none = only }
-unread bytes (fault.Limit which place) is only = record { refusal = is; none = only }
-unread bytes fault.NoMemory is only = tt
+    → ((tree : Tree) → Spells bytes tree → Reads (Err f) tree) → IsPrint bytes (report_on_unread f)
+unread bytes (parse.Syntax place) is only = record { found = parse.Syntax place; is = refl; refusal = is; none = only }
+unread bytes (parse.Limit which place) is only = record { found = parse.Limit which place; is = refl; refusal = is; none = only }
+unread bytes parse.NoMemory is only = tt
+
+-- a fault that is none of memory is the first of a text that spells no set without a fault
+told : (bytes : List ℕ) (f : SetFault) → (f ≡ set.NoMemory → ⊥) → IsSetFault bytes f
+    → ((tree : Tree) → Spells bytes tree → HasNoFault tree → HasNoBlockFault (set_of_tree tree).vars (set_of_tree tree).blocks
+    → f ≡ set.NoMemory)
+    → IsRefused bytes f
+told bytes f some is only = record {
+  cause = is;
+  some = some;
+  none = λ tree spelled whole blocks. some (only tree spelled whole blocks);
+}
+
+-- the report on a text that isn't admitted tells why
+pub refused : (bytes : List ℕ) (f : SetFault) → IsSetFault bytes f
+    → ((tree : Tree) → Spells bytes tree → HasNoFault tree → HasNoBlockFault (set_of_tree tree).vars (set_of_tree tree).blocks
+    → f ≡ set.NoMemory)
+    → IsJudgement bytes (report_on_fault f)
+refused bytes (set.Syntax place) is only = told bytes _ (λ e. cc) is only
+refused bytes (set.Limit which place) is only = told bytes _ (λ e. cc) is only
+refused bytes (set.NoVariable kind) is only = told bytes _ (λ e. cc) is only
+refused bytes (set.DuplicateName name place) is only = told bytes _ (λ e. cc) is only
+refused bytes (set.UnknownName name place) is only = told bytes _ (λ e. cc) is only
+refused bytes (set.WrongSide name place) is only = told bytes _ (λ e. cc) is only
+refused bytes (set.TypeMismatch place) is only = told bytes _ (λ e. cc) is only
+refused bytes (set.NotLinear why place) is only = told bytes _ (λ e. cc) is only
+refused bytes (set.BadRange place) is only = told bytes _ (λ e. cc) is only
+refused bytes (set.BadHold place) is only = told bytes _ (λ e. cc) is only
+refused bytes (set.BadBand place) is only = told bytes _ (λ e. cc) is only
+refused bytes (set.Shape title place) is only = told bytes _ (λ e. cc) is only
+refused bytes (set.NoTable section name) is only = told bytes _ (λ e. cc) is only
+refused bytes (set.TwoTables section name place) is only = told bytes _ (λ e. cc) is only
+refused bytes (set.Cycle names) is only = told bytes _ (λ e. cc) is only
+refused bytes (set.UnknownInvariant name place) is only = told bytes _ (λ e. cc) is only
+refused bytes (set.BlockCycle names) is only = told bytes _ (λ e. cc) is only
+refused bytes (set.GoalMissing name) is only = told bytes _ (λ e. cc) is only
+refused bytes (set.ShownTwice name) is only = told bytes _ (λ e. cc) is only
+refused bytes set.NoMemory is only = tt
 
 -- whichever command it is, its file is among these
 abbrev HasFile : List (List ℕ) → Option Command → Type 0
@@ -114,7 +158,7 @@ earned u bytes report.Usage file means zero_is = absurd means
 earned u bytes report.ReadFault file means zero_is = absurd means
 earned u bytes (report.TooLong which) file means zero_is = absurd means
 earned u bytes report.NoMemory file means zero_is = absurd (omega arith)
-earned u bytes (report.Refused fault) file means zero_is = absurd means
+earned u bytes (report.Refused fault) file means zero_is = absurd (omega arith)
 earned u bytes (report.Printed tree) file means zero_is = absurd means
 earned u bytes report.Unbuilt file means zero_is = absurd (omega arith)
 earned u bytes report.Points file means zero_is = absurd (omega arith)
@@ -129,7 +173,7 @@ differed u bytes report.Usage file means one_is = absurd means
 differed u bytes report.ReadFault file means one_is = absurd means
 differed u bytes (report.TooLong which) file means one_is = absurd means
 differed u bytes report.NoMemory file means one_is = absurd (omega arith)
-differed u bytes (report.Refused fault) file means one_is = absurd means
+differed u bytes (report.Refused fault) file means one_is = absurd (omega arith)
 differed u bytes (report.Printed tree) file means one_is = absurd means
 differed u bytes report.Unbuilt file means one_is = absurd (omega arith)
 differed u bytes report.Points file means one_is = absurd (omega arith)
@@ -211,14 +255,18 @@ module _ (command : Option Command) (uses : List ℕ → Use) (r : Report) (outc
   ]
 
 -- each judgement but the verdict has a cause that isn't there
-decided : SpellsOneSet → (u : Use) (S : Tables) (can : CanBeJudged u S) (r : Report) → IsJudgement can.bytes r → IsVerdictOn S r
+decided : OneSet → (u : Use) (S : Tables) (can : CanBeJudged u S) (r : Report) → IsJudgement can.bytes r → IsVerdictOn S r
 decided one_set u S can report.Usage means = means
 decided one_set u S can report.ReadFault means = means
 decided one_set u S can (report.TooLong which) means = means
-decided one_set u S can (report.Refused fault) means = means
+decided one_set u S can (report.Refused fault) means =
+    means.none can.spelled.tree can.spelled.spelled can.spelled.no_fault
+    (subst (λ (parts : Parts). HasNoBlockFault parts.vars parts.blocks) can.spelled.same can.blocks)
 decided one_set u S can (report.Printed tree) means = means
 decided one_set u S can report.NoMemory means = tt
-decided one_set u S can report.Unbuilt means = means S can.spelled
+decided one_set u S can report.Unbuilt means =
+    let (T, spelled, other) = means in
+    other can.small (subst (IsSetOf can.small) (sym (one_set can.bytes T S spelled can.spelled)) can.form)
 decided one_set u S can report.Points means =
     let (T, spelled, points) = means in
     can.few (subst HasPoints (one_set can.bytes T S spelled can.spelled) points)
@@ -229,7 +277,7 @@ decided one_set u S can (report.Improper title) means =
 decided one_set u S can (report.Verified T list) means = one_set can.bytes T S means.spelled can.spelled
 decided one_set u S can (report.Refuted T list scan) means = one_set can.bytes T S means.spelled can.spelled
 
-pub complete : SpellsOneSet → (command : Option Command) (uses : List ℕ → Use) (r : Report) → IsOutcome command uses r
+pub complete : OneSet → (command : Option Command) (uses : List ℕ → Use) (r : Report) → IsOutcome command uses r
     → IsComplete command uses r
 complete one_set command uses r outcome file S named can still =
     elim (content-or-none command uses r outcome (verify file) named can.bytes can.file still) [

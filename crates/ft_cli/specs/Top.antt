@@ -8,9 +8,12 @@ use Rattle.ft_port.specs.Causes.{Rose}
 use Rattle.ft_port.specs.Fetching.{HasReadFault, IsFile, IsTooLong}
 use Rattle.ft_port.specs.Reads.{Read, given}
 use Rattle.ft_tree.specs.declared.tree.Tree.{Tree}
-use Rattle.ft_parse.specs.meaning.Parse as tree_spelling
+use Rattle.ft_parse.specs.meaning.Parse.{Spells}
+use Rattle.ft_blocks.specs.meaning.Faults.{HasNoBlockFault}
+use Rattle.ft_admit.specs.meaning.SetFaults.{IsSetOfText}
 use Rattle.ft_small.specs.meaning.Finding.{HasPoints}
-use Rattle.ft_small.specs.meaning.SetOf.{Spells}
+use Rattle.ft_small.specs.meaning.SetOf.{IsSetOf}
+use Rattle.ft_small.specs.declared.small_set.SmallSet.{SmallSet}
 use Rattle.ft_cli.specs.meaning.Judgement.{IsJudgement, IsPrint, IsRefuted, IsVerified}
 use Rattle.ft_cli.specs.meaning.Report.{text_of, status_of}
 use Rattle.ft_cli.specs.declared.report.Which.TheVariants.{Set}
@@ -136,11 +139,15 @@ pub record HasRefutation (u : Use) (r : Report) : Type 0 where
   pub file : IsRead u bytes
   pub means : IsRefuted bytes set list scan
 
--- the bytes that could be had spell this set, which has no range too large and only proper tables
+-- the bytes that could be had spell this set, its blocks have no fault, and it is of the form that is judged, with no range too large and
+-- only proper tables
 pub record CanBeJudged (u : Use) (S : Tables) : Type 0 where
   pub bytes : List ℕ
   pub file : CanBeRead u bytes
-  pub spelled : Spells bytes S
+  pub spelled : IsSetOfText bytes S
+  pub blocks : HasNoBlockFault S.vars S.blocks
+  pub small : SmallSet
+  pub form : IsSetOf small S
   pub few : HasPoints S → ⊥
   pub proper : AllProper S
 
@@ -161,7 +168,7 @@ IsComplete command uses r =
 pub record CanBePrinted (u : Use) (tree : Tree) : Type 0 where
   pub bytes : List ℕ
   pub file : CanBeRead u bytes
-  pub spelled : tree_spelling.Spells bytes tree
+  pub spelled : Spells bytes tree
 
 -- where the file can be printed and its faults didn't rise, its tree is printed; want of memory is free
 abbrev pub PrintsAll : Option Command → (List ℕ → Use) → Report → Type 0

@@ -1,4 +1,5 @@
 -- What a report means, its text and its status.
 pub mod Exit
+pub mod FaultText
 pub mod Judgement
 pub mod Report

@@ -1,61 +1,60 @@
-ghost use Rattle.std.specs.Prelude.{◌≡◌, ◌<◌, ◌-◌, ◌^◌, [], ◌∷◌, length, IfOk, IfErr, OnOk};
+ghost use Rattle.std.specs.Prelude.{◌≡◌, ◌<◌, ◌-◌, ◌^◌, length, IfOk, IfErr, OnOk};
+ghost use Rattle.ft_admit.specs.meaning.SetFaults.{IsSetOfText};
 ghost use Rattle.ft_small.specs.meaning.Laws.{steady};
-ghost use Rattle.ft_small.specs.meaning.SetOf.{HasNames};
-ghost use Rattle.ft_small.specs.meaning.SmallSet.{IsGoodSmallSet, SpellsSmallSet};
+ghost use Rattle.ft_small.specs.meaning.SetOf.{IsSetOf};
 ghost use Rattle.ft_cli.specs.meaning.Judgement.{IsJudgement};
-ghost use Rattle.ft_cli.specs.stages.Judging.{DiffersFirstAt, DoesRefine, HasFewPoints, HasProperTables, IsReportOn};
+ghost use Rattle.ft_cli.specs.stages.Judging.{DiffersFirstAt, DoesRefine, HasFewPoints, HasProperTables, IsReportFor, IsReportOn};
 
+use crate::refusing::refused;
 use crate::report::Report;
+use ft_admit::admit;
 use ft_base::NoMemory;
-use ft_core::History;
+use ft_core::{History, Tables};
 use ft_small::{
-    Refusal, SmallSet, checked_set, first_difference, has_points, improper_title, read_small_set,
-    spelled_has_set, steady_is_allowed,
+    SmallSet, Unlike, first_difference, has_points, improper_title, small_of, steady_is_allowed,
 };
 use std::alloc::Global;
 
-/// A list of four scans of this value.
-fn four_scans(alloc: Global, value: i64) -> Result<History, NoMemory>
-    ensures { IfOk result (λ list. list ≡ steady 4 value) }
+/// A list of so many scans of one value.
+fn steady_list(alloc: Global, scans: u32, value: i64) -> Result<History, NoMemory>
+    ensures { IfOk result (λ list. list ≡ steady scans value) }
 {
     let mut list = History::new(alloc);
-    list.add(&[value])?;
-    list.add(&[value])?;
-    list.add(&[value])?;
-    list.add(&[value])?;
+    for _ in 0..scans {
+        list.add(&[value])?;
+    }
     Ok(list)
 }
 
-/// A list of one scan of this value.
-fn one_scan(alloc: Global, value: i64) -> Result<History, NoMemory>
-    ensures { IfOk result (λ list. list ≡ steady 1 value) }
-{
-    let mut list = History::new(alloc);
-    list.add(&[value])?;
-    Ok(list)
-}
-
-/// The small set that a text spells.
-fn spelled_set(alloc: Global, text: &[u8]) -> Result<SmallSet, Report>
+/// The checked set that a text spells.
+fn admitted(alloc: Global, text: &[u8]) -> Result<Tables, Report>
     requires { length text.now < 2 ^ 32 - 1 }
-    ensures spelled { IfOk result (SpellsSmallSet text.now) }
-    ensures named { IfOk result HasNames }
+    ensures set { IfOk result (IsSetOfText text.now) }
     ensures stopped { IfErr result (IsJudgement text.now) }
 {
-    match read_small_set(alloc, text) {
+    match admit(alloc, text) {
+        Ok((tables, _)) => Ok(tables),
+        Err(fault) => Err(refused(fault)),
+    }
+}
+
+/// Stops where the set is of another form than those that are judged.
+fn small_set(alloc: Global, tables: &Tables) -> Result<SmallSet, Report>
+    ensures is { IfOk result (λ small. IsSetOf small tables.now) }
+    ensures stopped { IfErr result (IsReportOn tables.now) }
+{
+    match small_of(alloc, tables) {
         Ok(small) => Ok(small),
-        Err(Refusal::Other) => Err(Report::Unbuilt),
-        Err(Refusal::NoMemory) => Err(Report::NoMemory),
+        Err(Unlike::Other) => Err(Report::Unbuilt),
+        Err(Unlike::NoMemory) => Err(Report::NoMemory),
     }
 }
 
 /// Stops where a range that is tried has too many values.
 fn with_few_points(small: &SmallSet) -> Result<(), Report>
-    requires { IsGoodSmallSet small.now }
     ensures few { OnOk result (HasFewPoints small.now) }
-    ensures stopped { IfErr result (IsReportOn small.now) }
+    ensures stopped { IfErr result (IsReportFor small.now) }
 {
-    spelled_has_set();
     if has_points(small) {
         Err(Report::Points)
     } else {
@@ -65,12 +64,10 @@ fn with_few_points(small: &SmallSet) -> Result<(), Report>
 
 /// Stops at the first table that isn't proper.
 fn with_proper_tables(alloc: Global, small: &SmallSet) -> Result<(), Report>
-    requires good { IsGoodSmallSet small.now }
-    requires few { HasFewPoints small.now }
+    requires { HasFewPoints small.now }
     ensures proper { OnOk result (HasProperTables small.now) }
-    ensures stopped { IfErr result (IsReportOn small.now) }
+    ensures stopped { IfErr result (IsReportFor small.now) }
 {
-    spelled_has_set();
     let improper = improper_title(alloc, small)?;
     match improper {
         Some(title) => Err(Report::Improper { title }),
@@ -79,17 +76,20 @@ fn with_proper_tables(alloc: Global, small: &SmallSet) -> Result<(), Report>
 }
 
 /// The report on a set with proper tables whose design puts out something else at this monitored value.
-fn refuted(alloc: Global, small: SmallSet, value: i64) -> Result<Report, NoMemory>
-    requires good { IsGoodSmallSet small }
-    requires named { HasNames small }
-    requires few { HasFewPoints small }
-    requires proper { HasProperTables small }
-    requires differs { DiffersFirstAt small value }
-    ensures { IfOk result (IsReportOn small) }
+fn refuted(
+    alloc: Global,
+    tables: Tables,
+    small: &SmallSet,
+    value: i64,
+) -> Result<Report, NoMemory>
+    requires is { IsSetOf small.now tables }
+    requires few { HasFewPoints small.now }
+    requires proper { HasProperTables small.now }
+    requires differs { DiffersFirstAt small.now value }
+    ensures { IfOk result (IsReportOn tables) }
 {
     steady_is_allowed();
-    let list = one_scan(alloc, value)?;
-    let tables = checked_set(alloc, small)?;
+    let list = steady_list(alloc, 1, value)?;
     Ok(Report::Refuted {
         tables,
         list,
@@ -98,33 +98,30 @@ fn refuted(alloc: Global, small: SmallSet, value: i64) -> Result<Report, NoMemor
 }
 
 /// Stops where the design of a set with proper tables puts out something else than its requirement asks for. Else it gives the set back.
-fn without_difference(alloc: Global, small: SmallSet) -> Result<SmallSet, Report>
-    requires good { IsGoodSmallSet small }
-    requires named { HasNames small }
-    requires few { HasFewPoints small }
-    requires proper { HasProperTables small }
-    ensures same { IfOk result (λ kept. kept ≡ small) }
-    ensures right { OnOk result (DoesRefine small) }
-    ensures stopped { IfErr result (IsReportOn small) }
+fn without_difference(alloc: Global, tables: Tables, small: &SmallSet) -> Result<Tables, Report>
+    requires is { IsSetOf small.now tables }
+    requires few { HasFewPoints small.now }
+    requires proper { HasProperTables small.now }
+    ensures same { IfOk result (λ kept. kept ≡ tables) }
+    ensures right { OnOk result (DoesRefine small.now) }
+    ensures stopped { IfErr result (IsReportOn tables) }
 {
-    match first_difference(&small) {
-        Some(value) => Err(refuted(alloc, small, value)?),
-        None => Ok(small),
+    match first_difference(small) {
+        Some(value) => Err(refuted(alloc, tables, small, value)?),
+        None => Ok(tables),
     }
 }
 
 /// The report on a set with proper tables whose design puts out what the requirement asks for.
-fn verified(alloc: Global, small: SmallSet) -> Result<Report, NoMemory>
-    requires good { IsGoodSmallSet small }
-    requires named { HasNames small }
-    requires few { HasFewPoints small }
-    requires proper { HasProperTables small }
-    requires right { DoesRefine small }
-    ensures { IfOk result (IsReportOn small) }
+fn verified(alloc: Global, tables: Tables, small: &SmallSet) -> Result<Report, NoMemory>
+    requires is { IsSetOf small.now tables }
+    requires few { HasFewPoints small.now }
+    requires proper { HasProperTables small.now }
+    requires right { DoesRefine small.now }
+    ensures { IfOk result (IsReportOn tables) }
 {
     steady_is_allowed();
-    let list = four_scans(alloc, small.variables.monitored.lo.value())?;
-    let tables = checked_set(alloc, small)?;
+    let list = steady_list(alloc, tables.depth, small.variables.monitored.range.lo())?;
     Ok(Report::Verified { tables, list })
 }
 
@@ -134,11 +131,12 @@ fn verdict(alloc: Global, text: &[u8]) -> Result<Report, Report>
     ensures ended { IfOk result (IsJudgement text.now) }
     ensures stopped { IfErr result (IsJudgement text.now) }
 {
-    let small = spelled_set(alloc, text)?;
+    let tables = admitted(alloc, text)?;
+    let small = small_set(alloc, &tables)?;
     with_few_points(&small)?;
     with_proper_tables(alloc, &small)?;
-    let small = without_difference(alloc, small)?;
-    Ok(verified(alloc, small)?)
+    let kept = without_difference(alloc, tables, &small)?;
+    Ok(verified(alloc, kept, &small)?)
 }
 
 /// What the set that a text spells comes to. The text is shorter than 2^32 - 1 bytes.

@@ -4,7 +4,9 @@
 mod command;
 mod ended;
 mod exit;
+mod faults;
 mod judging;
+mod refusing;
 mod rendering;
 mod report;
 mod top;

@@ -3,13 +3,13 @@ ghost use Rattle.std.specs.List.{flat_map, join_with_byte};
 ghost use Rattle.std.specs.Fmt.{decimal, signed_decimal};
 ghost use Rattle.ft_core.specs.declared.tables.VarKind.TheVariants.{Mon};
 ghost use Rattle.ft_core.specs.meaning.Kinds.{same_kind};
-ghost use Rattle.ft_cli.specs.meaning.Report.{line, obligations, set_line, trace_text, which_word, text_of, status_of, place_text};
-ghost use Rattle.ft_cli.specs.meaning.Report.{limit_word, fault_text};
+ghost use Rattle.ft_cli.specs.meaning.Report.{line, obligations, set_line, trace_text, which_word, text_of, status_of};
 
+use crate::faults::fault_line;
 use crate::report::{Report, Which};
-use ft_base::{List, NoMemory, Place, Text};
+use ft_admit::SetFault;
+use ft_base::{List, NoMemory, Text};
 use ft_core::{History, Tables, Var, VarKind};
-use ft_parse::{LimitWord, ParseFault};
 use ft_tree::write_tree;
 use std::alloc::Global;
 
@@ -191,71 +191,8 @@ fn too_long_text(alloc: Global, which: Which) -> Result<Text, NoMemory>
     }
 }
 
-/// LINE:COLUMN.
-fn add_place(alloc: Global, text: &mut Text, place: Place) -> Result<(), NoMemory>
-    ensures { OnOk result (text.new ≡ text.old ++ place_text place) }
-{
-    let line = place.line.to_string(alloc)?;
-    text.extend(line.as_bytes())?;
-    text.push(b':')?;
-    let column = place.column.to_string(alloc)?;
-    text.extend(column.as_bytes())
-}
-
-fn limit_name(which: LimitWord) -> &'static [u8]
-    ensures { result.now ≡ limit_word which }
-{
-    match which {
-        LimitWord::Name => b"name",
-        LimitWord::Number => b"number",
-        LimitWord::Constants => b"constants",
-        LimitWord::Types => b"types",
-        LimitWord::Members => b"members",
-        LimitWord::Variables => b"variables",
-        LimitWord::Memories => b"memories",
-        LimitWord::Nat => b"nat",
-        LimitWord::Tables => b"tables",
-        LimitWord::Rows => b"rows",
-        LimitWord::Columns => b"columns",
-        LimitWord::Blocks => b"blocks",
-        LimitWord::Facts => b"facts",
-        LimitWord::List => b"list",
-        LimitWord::Expression => b"expression",
-        LimitWord::Nesting => b"nesting",
-    }
-}
-
-/// The text of a fault, without the end of its line.
-fn fault_line(alloc: Global, fault: ParseFault) -> Result<Text, NoMemory>
-    ensures { IfOk result (λ text. text ≡ fault_text fault) }
-{
-    match fault {
-        ParseFault::Syntax { place } => syntax_line(alloc, place),
-        ParseFault::Limit { which, place } => limit_line(alloc, which, place),
-        ParseFault::NoMemory => List::copy_of(alloc, b"no memory"),
-    }
-}
-
-fn syntax_line(alloc: Global, place: Place) -> Result<Text, NoMemory>
-    ensures { IfOk result (λ text. text ≡ codes "Syntax at " ++ place_text place) }
-{
-    let mut text = List::copy_of(alloc, b"Syntax at ")?;
-    add_place(alloc, &mut text, place)?;
-    Ok(text)
-}
-
-fn limit_line(alloc: Global, which: LimitWord, place: Place) -> Result<Text, NoMemory>
-    ensures { IfOk result (λ text. text ≡ codes "Limit " ++ limit_word which ++ codes " at " ++ place_text place) }
-{
-    let mut text = List::copy_of(alloc, b"Limit ")?;
-    text.extend(limit_name(which))?;
-    text.extend(b" at ")?;
-    add_place(alloc, &mut text, place)?;
-    Ok(text)
-}
-
-fn refused_text(alloc: Global, fault: ParseFault) -> Result<Text, NoMemory>
-    ensures { IfOk result (λ text. text ≡ text_of (Report.Refused fault)) }
+fn refused_text(alloc: Global, fault: &SetFault) -> Result<Text, NoMemory>
+    ensures { IfOk result (λ text. text ≡ text_of (Report.Refused fault.now)) }
 {
     let mut text = List::copy_of(alloc, b"refused\n")?;
     text.extend(ended(fault_line(alloc, fault)?)?.as_slice())?;
@@ -271,7 +208,7 @@ pub fn report_text(alloc: Global, report: &Report) -> Result<Text, NoMemory>
         Report::ReadFault => List::copy_of(alloc, b"read fault\n"),
         Report::TooLong(which) => too_long_text(alloc, *which),
         Report::NoMemory => List::copy_of(alloc, b"no memory\n"),
-        Report::Refused(fault) => refused_text(alloc, *fault),
+        Report::Refused(fault) => refused_text(alloc, fault),
         Report::Printed(tree) => write_tree(alloc, tree),
         Report::Unbuilt => List::copy_of(alloc, b"refused\nnot built\n"),
         Report::Points => List::copy_of(alloc, b"open\npoints\n"),

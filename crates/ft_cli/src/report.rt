@@ -1,6 +1,6 @@
 use ft_base::{NoMemory, Text};
 use ft_core::{History, Tables};
-use ft_parse::ParseFault;
+use ft_admit::SetFault;
 use ft_tree::Tree;
 
 /// Which file a report speaks of.
@@ -21,11 +21,11 @@ pub enum Report {
     TooLong(Which),
     /// Memory was refused.
     NoMemory,
-    /// The text spells no tree of a set within the limits.
-    Refused(ParseFault),
+    /// The text spells no set without a fault, or to `print` no tree. It never holds want of memory.
+    Refused(SetFault),
     /// The tree that the text spells.
     Printed(Tree),
-    /// The text is no set that this version judges.
+    /// The set is of another form than those that this version judges.
     Unbuilt,
     /// A range has more values than are tried.
     Points,

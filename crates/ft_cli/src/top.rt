@@ -5,17 +5,18 @@ ghost use Rattle.ft_cli.specs.meaning.Judgement.{IsPrint};
 ghost use Rattle.ft_cli.specs.meaning.Report.{text_of};
 ghost use Rattle.ft_cli.specs.Top.{command_of, file_of, use_of, verify, Means, NamesKnown, NoOthers, PrintsAll, IsOutcome, HasStatus};
 ghost use Rattle.ft_cli.specs.Top.{Writes, HasHeadline, HasRefutation, IsComplete};
-ghost use Rattle.ft_cli.specs.stages.Command.{asked_by, report_on_error, report_on_fault};
+ghost use Rattle.ft_cli.specs.stages.Command.{asked_by, report_on_error};
 
 use crate::command::{Command, command_of};
 use crate::ended::Ended;
 use crate::judging::report_on_text;
+use crate::refusing::unread;
 use crate::rendering::{report_text, status_for};
 use crate::report::{Report, Which};
+use ft_admit::one_set;
 use ft_base::NoMemory;
-use ft_parse::{ParseFault, parse};
+use ft_parse::parse;
 use ft_port::{Failed, FetchError, Shelf, Sink, fetch};
-use ft_small::one_set;
 use std::alloc::Global;
 
 /// The longest file of a set, in bytes.
@@ -41,16 +42,6 @@ fn unfetched(error: FetchError) -> Report
         FetchError::Failed => Report::ReadFault,
         FetchError::TooLong => Report::TooLong(Which::Set),
         FetchError::NoMemory => Report::NoMemory,
-    }
-}
-
-/// The report on a text that spells no tree.
-fn unread(fault: ParseFault) -> Report
-    ensures { result ≡ report_on_fault fault }
-{
-    match fault {
-        ParseFault::NoMemory => Report::NoMemory,
-        ParseFault::Syntax { .. } | ParseFault::Limit { .. } => Report::Refused(fault),
     }
 }
 

@@ -14,7 +14,6 @@ use Rattle.ft_mean.specs.meaning.Value.{truth}
 use Rattle.ft_mean.specs.meaning.Reading.{IsVar, init_of, reading_of}
 use Rattle.ft_mean.specs.meaning.Memory.{look}
 use Rattle.ft_mean.specs.meaning.Allowed.{Allowed, nat_at}
-use Rattle.ft_small.specs.meaning.SmallSet.{bounds_of}
 use Rattle.ft_small.specs.meaning.SetOf.{IsSetOf, vars_of, var_of}
 use Rattle.ft_small.specs.meaning.Laws.{steady}
 use Rattle.ft_small.specs.declared.small_set.SmallSet.{SmallSet}
@@ -29,7 +28,7 @@ long : (n : ℕ) (value : ℤ) → length (steady n value) ≡ n
 long zero value = refl
 long (suc n) value = ap suc (long n value)
 
-module _ (f : SmallSet) (S : Tables) (is : IsSetOf f S) (n : ℕ) (value : ℤ) (within : IsWithin (bounds_of f.variables.monitored) value)
+module _ (f : SmallSet) (S : Tables) (is : IsSetOf f S) (n : ℕ) (value : ℤ) (within : IsWithin f.variables.monitored.range value)
   where
     only-monitored : (x : ℕ) (v : Var) → IsVar S monitored x v → (0 ≡ x) × (var_of Mon f.variables.monitored ≡ v)
     only-monitored x v e = at x (ap (λ vs. slice_get vs x) (sym is.vars) ∙ e.0)

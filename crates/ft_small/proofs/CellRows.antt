@@ -24,7 +24,6 @@ use Rattle.ft_small.specs.declared.small_set.Guard.TheVariants.{Always, Compare}
 use Rattle.ft_small.specs.declared.small_set.Entry.{Entry}
 use Rattle.ft_small.specs.declared.small_set.Entry.TheVariants.{Number, Read}
 use Rattle.ft_small.specs.declared.small_set.Row.{Row}
-use Rattle.ft_small.specs.meaning.SmallSet.{bound_value}
 use Rattle.ft_small.proofs.RangeLemmas.{proper-at}
 
 -- the cell of a row
@@ -52,10 +51,10 @@ cells-are n target read (row ∷ rows) = ap (λ more. cell_of n target read row 
 module _ (V : View) (read : ℕ) where
   guard-holds : (g : Guard) → truth V (cond_of read g) ≡ row_holds (V.now read) (record { guard = g; entry = Read })
   guard-holds Always = truth-Yes V
-  guard-holds (Compare r b) = truth-Compare V r _ _ ∙ (λ i. compares r (value-Now V read i) (value-Num V (bound_value b) i))
+  guard-holds (Compare r b) = truth-Compare V r _ _ ∙ (λ i. compares r (value-Now V read i) (value-Num V (b) i))
 
   entry-value : (g : Guard) (e : Entry) → value V (term_of read e) ≡ row_value (V.now read) (record { guard = g; entry = e })
-  entry-value g (Number b) = value-Num V (bound_value b)
+  entry-value g (Number b) = value-Num V (b)
   entry-value g Read = value-Now V read
 
   cell-holds : (n target : ℕ) (row : Row) → cell_holds V (cell_of n target read row) ≡ row_holds (V.now read) row

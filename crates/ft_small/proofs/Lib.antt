@@ -1,13 +1,7 @@
-pub mod LexemeLemmas
-pub mod LongerLemmas
-pub mod SpellingLemmas
-pub mod OneSetLemmas
+pub mod FormLemmas
 pub mod SetLemmas
 pub mod RangeLemmas
 pub mod CellRows
 pub mod AllowedLemmas
-pub mod CheckedLemmas
-pub mod NameLemmas
-pub mod ShortLemmas
 pub mod VerdictLemmas
 pub mod MeaningLemmas

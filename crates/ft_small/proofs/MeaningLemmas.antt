@@ -1,5 +1,5 @@
 -- What the tests on a small set say of its checked set: too many points, and the first table that isn't proper.
-use Rattle.std.proofs.Common.{◌≡◌, ◌∙◌, sym, ap, subst, refl, ℕ, zero, suc, ◌<◌, ◌++◌, ℤ, pos, Bool, true, false, List, [], ◌∷◌, slice_get}
+use Rattle.std.proofs.Common.{◌≡◌, ◌∙◌, sym, ap, subst, refl, ℕ, zero, suc, ◌<◌, ◌++◌, ℤ, pos, Bool, true, false, List, slice_get}
 use Rattle.std.proofs.Common.{Option, Some, None, inl, inr, ⊎_elim, codes, true≢false}
 use Rattle.std.specs.Prelude.{◌==◌, if◌then◌else◌, IfNone}
 use Rattle.std.proofs.lemmas.Bool.{cases_Bool, eq-eqb, eqb-true}
@@ -17,11 +17,9 @@ use Rattle.ft_mean.specs.meaning.Value.{View}
 use Rattle.ft_mean.specs.laws.Laws.{FitsOneTrace, HasOneImage}
 use Rattle.ft_mean.specs.meaning.Proper.{AllProper, IsLocal, IsProper}
 use Rattle.ft_mean.specs.meaning.Refines.{FirstDiffers, Refines}
-use Rattle.ft_small.specs.meaning.SmallSet.{AreGoodVariables, IsGoodSmallSet, bounds_of}
-use Rattle.ft_small.specs.meaning.SetOf.{HasNames, IsSetOf, block_of, table_of, tables_of, var_of, vars_of}
-use Rattle.ft_small.specs.steps.Short.{AreShort}
+use Rattle.ft_small.specs.meaning.SetOf.{IsSetOf, table_of, var_of, vars_of}
 use Rattle.ft_small.specs.meaning.Finding.{HasPoints, IsFirstImproper, IsLarge, IsTitle, section_word}
-use Rattle.ft_small.specs.meaning.Laws.{SpelledHasSet, steady}
+use Rattle.ft_small.specs.meaning.Laws.{steady}
 use Rattle.ft_small.specs.steps.Rows.{IsSameOn, is_proper_at}
 use Rattle.ft_small.specs.steps.Verdict.{AreProper, DiffersAt, HasLarge, IsFirstImproperIn, IsImproperIn, IsImproperOn, defined_in}
 use Rattle.ft_small.specs.steps.Verdict.{place_in, rows_in}
@@ -29,45 +27,7 @@ use Rattle.ft_small.specs.declared.small_set.Row.{Row}
 use Rattle.ft_small.specs.declared.small_set.Variable.{Variable}
 use Rattle.ft_small.specs.declared.small_set.SmallSet.{SmallSet}
 use Rattle.ft_small.proofs.CellRows.{rows-proper}
-use Rattle.ft_small.proofs.CheckedLemmas.{checked-of}
-use Rattle.ft_small.proofs.NameLemmas.{spelled-named}
-use Rattle.ft_small.proofs.SetLemmas.{inits-good, sound-of}
-use Rattle.ft_small.proofs.ShortLemmas.{spelled-short}
 use Rattle.ft_small.proofs.VerdictLemmas.{declared, differs, is_declared, proper-in, refines, section-at, table_in, there-in}
-
--- the checked set of a good small one
-pub set-of : (f : SmallSet) → IsGoodSmallSet f → AreShort f.rows → HasNames f → Tables
-set-of f good short names = record {
-  name = f.name;
-  period = pos f.period;
-  splits = 1000;
-  depth = 4;
-  vars = vars_of f.variables;
-  memories = [];
-  tables = tables_of f.rows;
-  first = [];
-  always = [];
-  step = [];
-  blocks = block_of f.block ∷ [];
-  sound = sound-of f good short;
-  checked = checked-of f good names;
-}
-
-pub is-set : (f : SmallSet) (good : IsGoodSmallSet f) (short : AreShort f.rows) (names : HasNames f) → IsSetOf f (set-of f good short names)
-unfolding set-of
-is-set f good short names = record {
-  name = refl;
-  period = refl;
-  splits = refl;
-  depth = refl;
-  vars = refl;
-  memories = refl;
-  tables = refl;
-  first = refl;
-  always = refl;
-  step = refl;
-  blocks = refl;
-}
 
 module _ (f : SmallSet) (S : Tables) (is : IsSetOf f S) where
   pub points : HasLarge f.variables → HasPoints S
@@ -127,14 +87,14 @@ view_at vars read z = record {
   memory = λ m. false;
 }
 
-module _ (f : SmallSet) (S : Tables) (is : IsSetOf f S) (good : AreGoodVariables f.variables) where
+module _ (f : SmallSet) (S : Tables) (is : IsSetOf f S) where
   first-within : (x : ℕ) (v : Var) → slice_get S.vars x ≡ Some v → IsWithin v.range (init_in (slice_get (vars_of f.variables) x))
   first-within x v there =
       let e = ap (λ vs. slice_get vs x) (sym is.vars) ∙ there in
-      subst (IsWithin v.range) (sym (ap init_in e)) (inits-good f.variables good x v e)
+      subst (IsWithin v.range) (sym (ap init_in e)) (S.sound.inits x v there)
 
   now-within : (read : ℕ) (r : Variable) (l : VarKind) (z : ℤ) → slice_get (vars_of f.variables) read ≡ Some (var_of l r)
-      → IsWithin (bounds_of r) z
+      → IsWithin r.range z
       → (x : ℕ) (v : Var) → slice_get S.vars x ≡ Some v → (b : Bool) → (x == read) ≡ b
       → IsWithin v.range (if b then z else init_in (slice_get (vars_of f.variables) x))
   now-within read r l z there within x v here false e = first-within x v here
@@ -144,7 +104,7 @@ module _ (f : SmallSet) (S : Tables) (is : IsSetOf f S) (good : AreGoodVariables
       (subst (λ y. slice_get S.vars y ≡ Some v) same here)) within
 
   local : (reads : List Read) (read : ℕ) (r : Variable) (l : VarKind) (z : ℤ) → slice_get (vars_of f.variables) read ≡ Some (var_of l r)
-      → IsWithin (bounds_of r) z → IsLocal S reads (view_at (vars_of f.variables) read z)
+      → IsWithin r.range z → IsLocal S reads (view_at (vars_of f.variables) read z)
   local reads read r l z there within = record {
     now = λ x v here. now-within read r l z there within x v here (x == read) refl;
     before = first-within;
@@ -154,14 +114,14 @@ module _ (f : SmallSet) (S : Tables) (is : IsSetOf f S) (good : AreGoodVariables
   -- a table isn't proper where its rows aren't
   improper-table : (s : Section) (target read : ℕ) (rows : List Row) (t r : Variable) (k l : VarKind)
       → slice_get (vars_of f.variables) target ≡ Some (var_of k t)
-      → slice_get (vars_of f.variables) read ≡ Some (var_of l r) → IsImproperOn rows (bounds_of r) (bounds_of t)
+      → slice_get (vars_of f.variables) read ≡ Some (var_of l r) → IsImproperOn rows r.range t.range
       → IsProper S (table_of s target read rows) → ⊥
   improper-table s target read rows t r k l there_t there_r (z, at) proper =
       let V = view_at (vars_of f.variables) read z in
       let now : V.now read ≡ z = ap (λ b. if b then z else init_in (slice_get (vars_of f.variables) read)) (eq-eqb read read refl) in
       let one = proper V (local (grid_reads (table_of s target read rows).grid) read r l z there_r at.within) target (var_of k t)
       (declared f S is target (var_of k t) there_t) (eq-eqb target target refl) in
-      true≢false (sym (rows-proper V read s target rows (bounds_of t) one) ∙ ap (is_proper_at rows (bounds_of t)) now ∙ at.improper)
+      true≢false (sym (rows-proper V read s target rows t.range one) ∙ ap (is_proper_at rows t.range) now ∙ at.improper)
 
   improper-in : (s : Section) → IsImproperIn f s → IsProper S (table_in f S is s) → ⊥
   improper-in section.In = improper-table section.In 2 0 f.rows.input f.variables.input f.variables.monitored Input Mon refl refl
@@ -217,28 +177,21 @@ module _ (f : SmallSet) (S : Tables) (is : IsSetOf f S) (good : AreGoodVariables
     titled = titled s title e;
   }
 
--- what bytes spell has its checked set
-pub spelled-set : SpelledHasSet
-spelled-set bytes f spelled =
-    let short = spelled-short bytes f spelled in
-    let names = spelled-named bytes f spelled in
-    (set-of f spelled.good short names, is-set f spelled.good short names)
-
-module _ (f : SmallSet) (S : Tables) (is : IsSetOf f S) (good : AreGoodVariables f.variables) (proper : AllProper S) where
+module _ (f : SmallSet) (S : Tables) (is : IsSetOf f S) (proper : AllProper S) where
   -- the rows of proper tables are proper
   rows-are-proper : AreProper f
   rows-are-proper s z within =
-      elim (cases_Bool (is_proper_at (rows_in f.rows s) (bounds_of (defined_in f.variables s)) z)) [
+      elim (cases_Bool (is_proper_at (rows_in f.rows s) ((defined_in f.variables s).range) z)) [
         | inl is_proper ↦ is_proper
         | inr improper ↦
             let table = proper (place_in s) (table_in f S is s) (there-in f S is s) in
-            absurd (improper-in f S is good s (z, record { within = within; improper = improper }) table)
+            absurd (improper-in f S is s (z, record { within = within; improper = improper }) table)
       ]
 
-  pub refines-where : FitsOneTrace → HasOneImage → IsSameOn f.rows (bounds_of f.variables.monitored) → Refines S
+  pub refines-where : FitsOneTrace → HasOneImage → IsSameOn f.rows f.variables.monitored.range → Refines S
   refines-where = refines f S is rows-are-proper
 
-  pub differs-where : FitsOneTrace → HasOneImage → (value : ℤ) → DiffersAt f.rows (bounds_of f.variables.monitored) value
+  pub differs-where : FitsOneTrace → HasOneImage → (value : ℤ) → DiffersAt f.rows f.variables.monitored.range value
       → FirstDiffers S (steady 1 value) 0
   differs-where = differs f S is rows-are-proper
 

@@ -27,7 +27,6 @@ use Rattle.ft_mean.specs.meaning.Fits.{side_reading}
 use Rattle.ft_mean.specs.meaning.Allowed.{Allowed}
 use Rattle.ft_mean.specs.laws.Laws.{FitsOneTrace, HasOneImage}
 use Rattle.ft_mean.specs.meaning.Refines.{FirstDiffers, Refines, Runs, SameAt}
-use Rattle.ft_small.specs.meaning.SmallSet.{bounds_of}
 use Rattle.ft_small.specs.meaning.SetOf.{IsSetOf, vars_of, var_of, tables_of, table_of}
 use Rattle.ft_small.specs.steps.Rows.{IsProperOn, IsSameOn, result_at, required_at, designed_at}
 use Rattle.ft_small.specs.steps.Verdict.{AreProper, DiffersAt, IsProperIn, place_in}
@@ -49,13 +48,13 @@ module _ (f : SmallSet) (S : Tables) (is : IsSetOf f S) where
   -- a table is proper where its rows are
   proper-table : (s : Section) (target read : ℕ) (rows : List Row) (t r : Variable) (k l : VarKind) → slice_get (vars_of f.variables) target
       ≡ Some (var_of k t)
-      → slice_get (vars_of f.variables) read ≡ Some (var_of l r) → IsProperOn rows (bounds_of r) (bounds_of t)
+      → slice_get (vars_of f.variables) read ≡ Some (var_of l r) → IsProperOn rows r.range t.range
       → IsProper S (table_of s target read rows)
   proper-table s target read rows t r k l there_t there_r on V local x v there def =
       let same : target ≡ x = eqb-true target x def in
-      let one = one-result rows (bounds_of t) (V.now read) (on (V.now read)
+      let one = one-result rows t.range (V.now read) (on (V.now read)
       (local.now read (var_of l r) (declared read (var_of l r) there_r))) in
-      let range : bounds_of t ≡ v.range = ap (λ (u : Var). u.range) (is_declared target (var_of k t) v there_t
+      let range : t.range ≡ v.range = ap (λ (u : Var). u.range) (is_declared target (var_of k t) v there_t
       (subst (λ y. slice_get S.vars y ≡ Some v) (sym same) there)) in
       subst (λ y. HasOneCell V (cells_for y (table_of s target read rows).grid) v.range) same
       (one-cell V (cells_for target (table_of s target read rows).grid) v.range one.given (values-held V read s target rows ∙ one.values)
@@ -100,11 +99,11 @@ module _ (f : SmallSet) (S : Tables) (is : IsSetOf f S) where
   -- what a table gives a variable is the result of its rows
   given-by : (s : Section) (target read : ℕ) (rows : List Row) (t r : Variable) → cells_of S s target
       ≡ cells_for target (table_of s target read rows).grid
-      → IsProperOn rows (bounds_of r) (bounds_of t) → (V : View) (y : ℤ) → IsWithin (bounds_of r) (V.now read)
+      → IsProperOn rows r.range t.range → (V : View) (y : ℤ) → IsWithin r.range (V.now read)
       → IsTrue (defined S s V target y)
       → result_at rows (V.now read) ≡ Some y
   given-by s target read rows t r are on V y within def =
-      let one = one-result rows (bounds_of t) (V.now read) (on (V.now read) within) in
+      let one = one-result rows t.range (V.now read) (on (V.now read) within) in
       let values = values-held V read s target rows ∙ one.values in
       let there : list_any (λ c. int_eq y (value V c.term)) (holding V (cells_for target (table_of s target read rows).grid)) ≡ true =
       ap (λ cs. list_any (λ c. int_eq y (value V c.term)) (holding V cs)) (sym are) ∙ def in
@@ -167,7 +166,7 @@ module _ (f : SmallSet) (S : Tables) (is : IsSetOf f S) (proper : AreProper f) w
     abbrev x_of : ℤ
     x_of = reading_of S monitored h t 0
 
-    x-within : IsWithin (bounds_of f.variables.monitored) x_of
+    x-within : IsWithin f.variables.monitored.range x_of
     x-within = runs.allowed.monitored_list.values.ranges t 0 _ below (is-mon f S is)
 
     same-x : side_reading S side.Req r t 0 ≡ x_of
@@ -178,7 +177,7 @@ module _ (f : SmallSet) (S : Tables) (is : IsSetOf f S) (proper : AreProper f) w
         (given-by f S is section.Req 1 0 f.rows.required f.variables.controlled f.variables.monitored (required-cells f S is)
         (proper section.Req)
         (look S (side_reading S side.Req r) t) (side_reading S side.Req r t 1)
-        (subst (IsWithin (bounds_of f.variables.monitored)) (sym same-x) x-within)
+        (subst (IsWithin f.variables.monitored.range) (sym same-x) x-within)
         (runs.required.is.follows t long_r 1 _ (is-con f S is (defined_kinds section.Req) refl)))
 
     input-is : result_at f.rows.input x_of ≡ Some (reading_of S inputs i t 2)
@@ -188,8 +187,8 @@ module _ (f : SmallSet) (S : Tables) (is : IsSetOf f S) (proper : AreProper f) w
     same-input : side_reading S side.Sof s t 2 ≡ reading_of S inputs i t 2
     same-input = runs.design.is.same_given t 2 _ long_s (is-input f S is)
 
-    input-within : IsWithin (bounds_of f.variables.input) (side_reading S side.Sof s t 2)
-    input-within = subst (IsWithin (bounds_of f.variables.input)) (sym same-input)
+    input-within : IsWithin f.variables.input.range (side_reading S side.Sof s t 2)
+    input-within = subst (IsWithin f.variables.input.range) (sym same-input)
         (runs.inputs.is.values.ranges t 2 _ long_i (is-input f S is))
 
     design-is : result_at f.rows.design (side_reading S side.Sof s t 2) ≡ Some (side_reading S side.Sof s t 3)
@@ -227,13 +226,13 @@ module _ (f : SmallSet) (S : Tables) (is : IsSetOf f S) (proper : AreProper f) w
       let c = (one_image S all-proper).1 s.0 s.1.is.values in
       (r.0, i.0, s.0, c.0, record { allowed = allowed; required = r.1; inputs = i.1; design = s.1; outputs = c.1 })
 
-  pub refines : FitsOneTrace → HasOneImage → IsSameOn f.rows (bounds_of f.variables.monitored) → Refines S
+  pub refines : FitsOneTrace → HasOneImage → IsSameOn f.rows f.variables.monitored.range → Refines S
   refines one_trace one_image same h allowed =
       let (r, i, s, c, runs) = run-of one_trace one_image h allowed in
       (r, i, s, c, runs, λ t below. same-at h r i s c runs t below (same (x_of h r i s c runs t below) (x-within h r i s c runs t below)))
 
   -- on a list of one scan at which the rows differ, the controlled value does
-  pub differs : FitsOneTrace → HasOneImage → (value : ℤ) → DiffersAt f.rows (bounds_of f.variables.monitored) value
+  pub differs : FitsOneTrace → HasOneImage → (value : ℤ) → DiffersAt f.rows f.variables.monitored.range value
       → FirstDiffers S (steady 1 value) 0
   differs one_trace one_image value at =
       let allowed = steady-allowed f S is 1 value at.within (omega arith) in

@@ -1,5 +1,4 @@
 -- What only the contracts of private functions and proofs cite.
-pub mod Cursor
+pub mod Form
 pub mod Rows
-pub mod Short
 pub mod Verdict

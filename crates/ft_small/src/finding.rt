@@ -2,13 +2,12 @@ ghost use Rattle.std.specs.Prelude.{◌≡◌, ◌++◌, codes, IsTrue, IsFalse,
 ghost use Rattle.ft_core.specs.declared.tables.Tables.{Tables};
 ghost use Rattle.ft_mean.specs.meaning.Proper.{AllProper};
 ghost use Rattle.ft_mean.specs.meaning.Refines.{FirstDiffers, Refines};
-ghost use Rattle.ft_small.specs.meaning.SmallSet.{IsGoodSmallSet};
 ghost use Rattle.ft_small.specs.meaning.SetOf.{IsSetOf};
 ghost use Rattle.ft_small.specs.meaning.Finding.{HasPoints, IsFirstImproper, section_word};
 ghost use Rattle.ft_small.specs.meaning.Laws.{steady};
 
 use crate::small_set::SmallSet;
-use crate::verdict::{defined_in, first_difference_on, first_improper, has_large, range_of};
+use crate::verdict::{defined_in, first_difference_on, first_improper, has_large};
 use ft_base::{List, NoMemory, Text};
 use ft_core::Section;
 use ft_mean::{one_image, one_trace};
@@ -16,7 +15,6 @@ use std::alloc::Global;
 
 /// Whether the range of the monitored variable, the input or the output has more than 100,000 values.
 pub fn has_points(small: &SmallSet) -> bool
-    requires { IsGoodSmallSet small.now }
     ensures points { IsTrue result → (S : Tables) → IsSetOf small.now S → HasPoints S }
     ensures few { IsFalse result → (S : Tables) → IsSetOf small.now S → HasPoints S → ⊥ }
 {
@@ -46,7 +44,6 @@ fn title(alloc: Global, section: Section, name: &[u8]) -> Result<Text, NoMemory>
 
 /// The title of the first table that isn't proper.
 pub fn improper_title(alloc: Global, small: &SmallSet) -> Result<Option<Text>, NoMemory>
-    requires { IsGoodSmallSet small.now }
     ensures some { IfOk result (λ found. IfSome found (λ title. (S : Tables) → IsSetOf small.now S → IsFirstImproper S title)) }
     ensures none { IfOk result (λ found. IfNone found ((S : Tables) → IsSetOf small.now S → AllProper S)) }
 {
@@ -61,11 +58,10 @@ pub fn improper_title(alloc: Global, small: &SmallSet) -> Result<Option<Text>, N
 
 /// The least monitored value at which the design of a set with proper tables puts out something else than its requirement asks for.
 pub fn first_difference(small: &SmallSet) -> Option<i64>
-    requires { IsGoodSmallSet small.now }
     ensures some { IfSome result (λ value. (S : Tables) → IsSetOf small.now S → AllProper S → FirstDiffers S (steady 1 value) 0) }
     ensures none { IfNone result ((S : Tables) → IsSetOf small.now S → AllProper S → Refines S) }
 {
     one_trace();
     one_image();
-    first_difference_on(&small.rows, range_of(&small.variables.monitored))
+    first_difference_on(&small.rows, small.variables.monitored.range)
 }

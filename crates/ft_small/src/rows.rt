@@ -14,7 +14,7 @@ impl Row {
     {
         match self.guard {
             Guard::Always => true,
-            Guard::Compare(relation, bound) => compare(relation, value, bound.value()),
+            Guard::Compare(relation, number) => compare(relation, value, number),
         }
     }
 
@@ -23,7 +23,7 @@ impl Row {
         ensures { result ≡ row_value value self.now }
     {
         match self.entry {
-            Entry::Number(bound) => bound.value(),
+            Entry::Number(number) => number,
             Entry::Read => value,
         }
     }

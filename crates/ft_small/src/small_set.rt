@@ -1,25 +1,5 @@
-ghost use Rattle.std.specs.Prelude.{◌≡◌};
-ghost use Rattle.ft_small.specs.meaning.SmallSet.{bound_value};
-
-use ft_base::{List, Text};
+use ft_base::{List, Range, Text};
 use ft_core::Rel;
-
-/// A number as it is written: its size, and whether a minus stands before it.
-#[derive(Clone, Copy, Drop)]
-pub struct Bound {
-    pub minus: bool,
-    pub size: u32,
-}
-
-impl Bound {
-    /// The number that it stands for.
-    pub fn value(self) -> i64
-        ensures { result ≡ bound_value self }
-    {
-        let size = i64::from(self.size);
-        if self.minus { -size } else { size }
-    }
-}
 
 /// When a row of a table holds.
 #[derive(Clone, Copy, Drop)]
@@ -27,14 +7,14 @@ pub enum Guard {
     /// Always.
     Always,
     /// Where the variable that the table reads compares so with the number.
-    Compare(Rel, Bound),
+    Compare(Rel, i64),
 }
 
 /// What a row of a table gives.
 #[derive(Clone, Copy, Drop)]
 pub enum Entry {
     /// A number.
-    Number(Bound),
+    Number(i64),
     /// The value of the variable that the table reads.
     Read,
 }
@@ -46,13 +26,12 @@ pub struct Row {
     pub entry: Entry,
 }
 
-/// A variable with its range and its value before scan 0.
+/// A number variable with its range and its value before scan 0.
 #[derive(Drop)]
 pub struct Variable {
     pub name: Text,
-    pub lo: Bound,
-    pub hi: Bound,
-    pub init: Bound,
+    pub range: Range,
+    pub init: i64,
 }
 
 /// One variable of each of the four kinds.
@@ -80,9 +59,6 @@ pub struct TableRows {
 /// The smallest sets: four variables, with one table of one column from each to the next.
 #[derive(Drop)]
 pub struct SmallSet {
-    pub name: Text,
-    pub period: u32,
     pub variables: Variables,
     pub rows: TableRows,
-    pub block: Text,
 }

@@ -1,6 +1,5 @@
 ghost use Rattle.std.specs.Prelude.{◌≡◌, ◌≢◌, ◌↔◌, ◌+ℤ◌, ◌<◌, ◌≤◌, ℤ, pos, true, IsTrue, IsFalse, IfSome, IfNone, unsigned_abs};
 ghost use Rattle.ft_base.specs.Interval.{IsWithin};
-ghost use Rattle.ft_small.specs.meaning.SmallSet.{AreGoodVariables, IsGoodSmallSet, IsGoodVariable, bounds_of};
 ghost use Rattle.ft_small.specs.meaning.Finding.{IsLarge};
 ghost use Rattle.ft_small.specs.steps.Verdict.{AreProper, DiffersAt, HasLarge, IsFirstImproperIn, IsImproperIn, IsImproperOn, IsProperIn};
 ghost use Rattle.ft_small.specs.steps.Verdict.{defined_in, read_in, rows_in};
@@ -10,17 +9,6 @@ use crate::rows::{designed_at, is_proper_at, required_at};
 use crate::small_set::{Row, SmallSet, TableRows, Variable, Variables};
 use ft_base::Range;
 use ft_core::Section;
-
-/// The range of a variable.
-pub fn range_of(variable: &Variable) -> Range
-    requires { IsGoodVariable variable.now }
-    ensures { result ≡ bounds_of variable.now }
-{
-    match Range::new(variable.lo.value(), variable.hi.value()) {
-        Some(range) => range,
-        None => unreachable!(),
-    }
-}
 
 /// How many numbers a range has.
 fn numbers_in(range: Range) -> u32
@@ -45,13 +33,12 @@ fn is_large(range: Range) -> bool
 
 /// Whether the range of the monitored variable, the input or the output has more than 100,000 values.
 pub fn has_large(variables: &Variables) -> bool
-    requires { AreGoodVariables variables.now }
     ensures large { IsTrue result → HasLarge variables.now }
     ensures few { IsFalse result → HasLarge variables.now → ⊥ }
 {
-    is_large(range_of(&variables.monitored))
-        || is_large(range_of(&variables.input))
-        || is_large(range_of(&variables.output))
+    is_large(variables.monitored.range)
+        || is_large(variables.input.range)
+        || is_large(variables.output.range)
 }
 
 /// Whether a table is proper wherever the variable that it reads is in its range.
@@ -103,18 +90,16 @@ pub fn defined_in(variables: &Variables, section: Section) -> &Variable
 
 /// Whether the table of a section is proper.
 fn is_proper_in(small: &SmallSet, section: Section) -> bool
-    requires { IsGoodSmallSet small.now }
     ensures proper { IsTrue result → IsProperIn small.now section }
     ensures improper { IsFalse result → IsImproperIn small.now section }
 {
-    let read = range_of(read_in(&small.variables, section));
-    let given = range_of(defined_in(&small.variables, section));
+    let read = read_in(&small.variables, section).range;
+    let given = defined_in(&small.variables, section).range;
     is_proper_on(rows_in(&small.rows, section), read, given)
 }
 
 /// The section of the first table that isn't proper.
 pub fn first_improper(small: &SmallSet) -> Option<Section>
-    requires { IsGoodSmallSet small.now }
     ensures some { IfSome result (IsFirstImproperIn small.now) }
     ensures none { IfNone result (AreProper small.now) }
 {

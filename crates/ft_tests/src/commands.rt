@@ -25,7 +25,7 @@ const WITHOUT_VERDICT: [(&str, u64, (u64, usize), u8, &[u8]); 14] = [
     ("verify missing", 0, (0, 0), 5, b"read fault\n"),
     ("print missing", 0, (0, 0), 5, b"read fault\n"),
     ("verify f", 1, (0, 0), 5, b"read fault\n"),
-    ("verify f", 2, (0, 0), 3, NOT_BUILT),
+    ("verify f", 2, (0, 0), 3, b"refused\nSyntax at 1:1\n"),
     ("print f", 2, (0, 0), 3, b"refused\nSyntax at 1:1\n"),
     ("verify f", 0, (1, 3), 6, b"ref"),
     ("print f", 0, (1, 3), 6, b"ref"),
@@ -49,7 +49,12 @@ fn spaces(alloc: Global, count: usize) -> Result<Vec<u8>, AllocError> {
 const LONG_FILES: [(&str, usize, u8, &[u8]); 4] = [
     ("verify f", 4_194_305, 10, b"too long: set\n"),
     ("print f", 4_194_305, 10, b"too long: set\n"),
-    ("verify f", 4_194_304, 3, NOT_BUILT),
+    (
+        "verify f",
+        4_194_304,
+        3,
+        b"refused\nSyntax at 1:4194305\n",
+    ),
     ("print f", 4_194_304, 3, b"refused\nSyntax at 1:4194305\n"),
 ];
 
@@ -173,7 +178,7 @@ const SETS: [(&[u8], &[u8], &[u8], u8, &[u8]); 16] = [
         b"req normal c { columns true; row x >= 5 : 1; row x < 5 : 0 }",
         DESIGN,
         3,
-        NOT_BUILT,
+        b"refused\nSyntax at 8:60\n",
     ),
     (
         MONITORED,
@@ -182,8 +187,20 @@ const SETS: [(&[u8], &[u8], &[u8], u8, &[u8]); 16] = [
         3,
         NOT_BUILT,
     ),
-    (b"mon x : 0..9 init 10;", REQUIRED, DESIGN, 3, NOT_BUILT),
-    (b"mon c : 0..9 init 0;", REQUIRED, DESIGN, 3, NOT_BUILT),
+    (
+        b"mon x : 0..9 init 10;",
+        REQUIRED,
+        DESIGN,
+        3,
+        b"refused\nBadRange at 3:19\n",
+    ),
+    (
+        b"mon c : 0..9 init 0;",
+        REQUIRED,
+        DESIGN,
+        3,
+        b"refused\nDuplicateName c at 4:5\n",
+    ),
 ];
 
 #[test]

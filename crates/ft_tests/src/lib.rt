@@ -8,6 +8,8 @@ mod commands;
 #[cfg(test)]
 mod containers;
 #[cfg(test)]
+mod faults;
+#[cfg(test)]
 mod formulas;
 #[cfg(test)]
 mod memories;

@@ -5,12 +5,8 @@ use Rattle.std.specs.Fmt.{decimal, signed_decimal}
 use Rattle.ft_core.specs.declared.tables.Tables.{Tables}
 use Rattle.ft_core.specs.declared.tables.VarKind.TheVariants.{Mon}
 use Rattle.ft_core.specs.meaning.Kinds.{same_kind}
-use Rattle.ft_base.specs.declared.place.Place.{Place}
-use Rattle.ft_read.specs.declared.stop.LimitWord.{LimitWord}
-use Rattle.ft_read.specs.declared.stop.LimitWord.TheVariants as limit
-use Rattle.ft_parse.specs.declared.fault.ParseFault.{ParseFault}
-use Rattle.ft_parse.specs.declared.fault.ParseFault.TheVariants as fault
 use Rattle.ft_tree.specs.meaning.Canonical.{canonical}
+use Rattle.ft_cli.specs.meaning.FaultText.{fault_text}
 use Rattle.ft_cli.specs.declared.report.Which.{Which}
 use Rattle.ft_cli.specs.declared.report.Which.TheVariants.{Set}
 use Rattle.ft_cli.specs.declared.report.Report.{Report}
@@ -37,33 +33,6 @@ trace_text S scans =
 
 abbrev pub which_word : Which → List ℕ
 which_word Set = codes "set"
-
--- LINE:COLUMN
-abbrev pub place_text : Place → List ℕ
-place_text place = decimal place.line ++ codes ":" ++ decimal place.column
-
-abbrev pub limit_word : LimitWord → List ℕ
-limit_word limit.Name = codes "name"
-limit_word limit.Number = codes "number"
-limit_word limit.Constants = codes "constants"
-limit_word limit.Types = codes "types"
-limit_word limit.Members = codes "members"
-limit_word limit.Variables = codes "variables"
-limit_word limit.Memories = codes "memories"
-limit_word limit.Nat = codes "nat"
-limit_word limit.Tables = codes "tables"
-limit_word limit.Rows = codes "rows"
-limit_word limit.Columns = codes "columns"
-limit_word limit.Blocks = codes "blocks"
-limit_word limit.Facts = codes "facts"
-limit_word limit.List = codes "list"
-limit_word limit.Expression = codes "expression"
-limit_word limit.Nesting = codes "nesting"
-
-abbrev pub fault_text : ParseFault → List ℕ
-fault_text (fault.Syntax place) = codes "Syntax at " ++ place_text place
-fault_text (fault.Limit which place) = codes "Limit " ++ limit_word which ++ codes " at " ++ place_text place
-fault_text fault.NoMemory = codes "no memory"
 
 abbrev pub text_of : Report → List ℕ
 text_of report.Usage = line (codes "usage: ftv verify F, print F")

@@ -2,7 +2,10 @@
 use Rattle.ft_port.specs.declared.fetching.FetchError.{FetchError}
 use Rattle.ft_port.specs.declared.fetching.FetchError.TheVariants as fetching
 use Rattle.ft_parse.specs.declared.fault.ParseFault.{ParseFault}
-use Rattle.ft_parse.specs.declared.fault.ParseFault.TheVariants as fault
+use Rattle.ft_parse.specs.declared.fault.ParseFault.TheVariants as parse
+use Rattle.ft_admit.specs.declared.set_fault.SetFault.{SetFault}
+use Rattle.ft_admit.specs.declared.set_fault.SetFault.TheVariants as fault
+use Rattle.ft_admit.specs.meaning.SetFaults.{of_parse}
 use Rattle.ft_cli.specs.Top as top
 use Rattle.ft_cli.specs.declared.command.Command.{Command}
 use Rattle.ft_cli.specs.declared.command.Command.TheVariants.{Verify, Print}
@@ -19,7 +22,10 @@ report_on_error fetching.Failed = report.ReadFault
 report_on_error fetching.TooLong = report.TooLong Set
 report_on_error fetching.NoMemory = report.NoMemory
 
-abbrev pub report_on_fault : ParseFault → Report
-report_on_fault (fault.Syntax place) = report.Refused (fault.Syntax place)
-report_on_fault (fault.Limit which place) = report.Refused (fault.Limit which place)
+-- want of memory stands apart from the faults of a text
+abbrev pub report_on_fault : SetFault → Report
 report_on_fault fault.NoMemory = report.NoMemory
+report_on_fault fault = report.Refused fault
+
+abbrev pub report_on_unread : ParseFault → Report
+report_on_unread found = report_on_fault (of_parse found)

@@ -3,10 +3,10 @@ use Rattle.std.specs.Prelude.{ℕ, ℤ, List}
 use Rattle.ft_core.specs.declared.tables.Tables.{Tables}
 use Rattle.ft_mean.specs.meaning.Proper.{AllProper}
 use Rattle.ft_mean.specs.meaning.Refines.{FirstDiffers, Refines}
+use Rattle.ft_admit.specs.meaning.SetFaults.{IsSetOfText}
 use Rattle.ft_small.specs.meaning.Finding.{HasPoints}
 use Rattle.ft_small.specs.meaning.Laws.{steady}
 use Rattle.ft_small.specs.meaning.SetOf.{IsSetOf}
-use Rattle.ft_small.specs.meaning.SmallSet.{SpellsSmallSet}
 use Rattle.ft_small.specs.declared.small_set.SmallSet.{SmallSet}
 use Rattle.ft_cli.specs.meaning.Judgement.{IsJudgement}
 use Rattle.ft_cli.specs.declared.report.Report.{Report}
@@ -26,5 +26,9 @@ abbrev pub DoesRefine : SmallSet → Type 0
 DoesRefine small = (S : Tables) → IsSetOf small S → AllProper S → Refines S
 
 -- the report judges all bytes that spell the set
-abbrev pub IsReportOn : SmallSet → Report → Type 0
-IsReportOn small report = (bytes : List ℕ) → SpellsSmallSet bytes small → IsJudgement bytes report
+abbrev pub IsReportOn : Tables → Report → Type 0
+IsReportOn S report = (bytes : List ℕ) → IsSetOfText bytes S → IsJudgement bytes report
+
+-- and so of each checked set of a small one
+abbrev pub IsReportFor : SmallSet → Report → Type 0
+IsReportFor small report = (S : Tables) → IsSetOf small S → IsReportOn S report

@@ -4,7 +4,6 @@ use Rattle.std.specs.List.{find}
 use Rattle.std.specs.Option.{option_map, option_and_then}
 use Rattle.ft_base.specs.Interval.{IsWithin}
 use Rattle.ft_mean.specs.meaning.Value.{compares}
-use Rattle.ft_small.specs.meaning.SmallSet.{bound_value}
 use Rattle.ft_small.specs.declared.small_set.Guard.{Guard}
 use Rattle.ft_small.specs.declared.small_set.Guard.TheVariants.{Always, Compare}
 use Rattle.ft_small.specs.declared.small_set.Entry.{Entry}
@@ -14,10 +13,10 @@ use Rattle.ft_small.specs.declared.small_set.TableRows.{TableRows}
 
 abbrev pub guard_holds : ℤ → Guard → Bool
 guard_holds z Always = true
-guard_holds z (Compare r b) = compares r z (bound_value b)
+guard_holds z (Compare r b) = compares r z (b)
 
 abbrev pub entry_value : ℤ → Entry → ℤ
-entry_value z (Number b) = bound_value b
+entry_value z (Number b) = b
 entry_value z Read = z
 
 -- the row holds where the variable read is z

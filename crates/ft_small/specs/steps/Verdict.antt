@@ -3,7 +3,6 @@ use Rattle.std.specs.Prelude.{◌≡◌, ◌≢◌, ◌⊎◌, ℕ, ◌<◌, ℤ
 use Rattle.ft_base.specs.Interval.{IsWithin}
 use Rattle.ft_core.specs.declared.tables.Section.{Section}
 use Rattle.ft_core.specs.declared.tables.Section.TheVariants as section
-use Rattle.ft_small.specs.meaning.SmallSet.{bounds_of}
 use Rattle.ft_small.specs.meaning.Finding.{IsLarge}
 use Rattle.ft_small.specs.steps.Rows.{IsProperOn, is_proper_at, required_at, designed_at}
 use Rattle.ft_small.specs.declared.small_set.Row.{Row}
@@ -41,7 +40,7 @@ defined_in v section.Out = v.controlled
 
 -- the table of a section is proper wherever what it reads is in range
 abbrev pub IsProperIn : SmallSet → Section → Type 0
-IsProperIn f s = IsProperOn (rows_in f.rows s) (bounds_of (read_in f.variables s)) (bounds_of (defined_in f.variables s))
+IsProperIn f s = IsProperOn (rows_in f.rows s) ((read_in f.variables s).range) ((defined_in f.variables s).range)
 
 abbrev pub AreProper : SmallSet → Type 0
 AreProper f = (s : Section) → IsProperIn f s
@@ -56,7 +55,7 @@ abbrev pub IsImproperOn : List Row → (read given : ℤ × ℤ) → Type 0
 IsImproperOn rows read given = (z : ℤ) × IsImproperAt rows read given z
 
 abbrev pub IsImproperIn : SmallSet → Section → Type 0
-IsImproperIn f s = IsImproperOn (rows_in f.rows s) (bounds_of (read_in f.variables s)) (bounds_of (defined_in f.variables s))
+IsImproperIn f s = IsImproperOn (rows_in f.rows s) ((read_in f.variables s).range) ((defined_in f.variables s).range)
 
 -- the table of this section isn't proper, and those before it are
 pub record IsFirstImproperIn (f : SmallSet) (s : Section) : Type 0 where
@@ -65,7 +64,7 @@ pub record IsFirstImproperIn (f : SmallSet) (s : Section) : Type 0 where
 
 -- one of the ranges that are tried has more than 100,000 values
 abbrev pub HasLarge : Variables → Type 0
-HasLarge v = IsLarge (bounds_of v.monitored) ⊎ IsLarge (bounds_of v.input) ⊎ IsLarge (bounds_of v.output)
+HasLarge v = IsLarge v.monitored.range ⊎ IsLarge v.input.range ⊎ IsLarge v.output.range
 
 -- at this monitored value the design puts out something else
 pub record DiffersAt (t : TableRows) (monitored : ℤ × ℤ) (z : ℤ) : Type 0 where

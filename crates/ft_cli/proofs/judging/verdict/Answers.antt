@@ -1,9 +1,6 @@
 use Rattle.std.proofs.Common.{subst, sym}
-use Rattle.ft_cli.specs.stages.Judging.{HasFewPoints, HasProperTables}
+use Rattle.ft_small.specs.meaning.SetOf.{IsSetOf}
 use Rattle.ft_cli.proofs.judging.verdict.Goals as goal
 
-pub verified-requires-clause-few : goal.verified-requires-clause-few
-verified-requires-clause-few c = subst HasFewPoints (sym c.in_ok-small-2.ensures.same) c.in_ok-with_few_points.ensures.few
-
-pub verified-requires-clause-proper : goal.verified-requires-clause-proper
-verified-requires-clause-proper c = subst HasProperTables (sym c.in_ok-small-2.ensures.same) c.in_ok-with_proper_tables.ensures.proper
+pub verified-requires-clause-is : goal.verified-requires-clause-is
+verified-requires-clause-is c = subst (IsSetOf c.in_ok-small.small) (sym c.in_ok-kept.ensures.same) c.in_ok-small.ensures.is

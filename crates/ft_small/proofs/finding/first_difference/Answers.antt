@@ -4,12 +4,10 @@ use Rattle.ft_small.proofs.finding.first_difference.Goals as goal
 
 pub returns-clause-some : goal.returns-clause-some
 returns-clause-some c =
-    let found = rw c.range_of.ensures at c.first_difference_on.ensures.some in
-    IfSome_then c.first_difference_on.result found (λ value at S is proper.
-    differs-where c.args.small.now S is c.requires.variables proper c.one_trace.ensures c.one_image.ensures value at)
+    IfSome_then c.first_difference_on.result c.first_difference_on.ensures.some (λ value at S is proper.
+    differs-where c.args.small.now S is proper c.one_trace.ensures c.one_image.ensures value at)
 
 pub returns-clause-none : goal.returns-clause-none
 returns-clause-none c =
-    let same = rw c.range_of.ensures at c.first_difference_on.ensures.none in
-    none-then c.first_difference_on.result same (λ all S is proper.
-    refines-where c.args.small.now S is c.requires.variables proper c.one_trace.ensures c.one_image.ensures all)
+    none-then c.first_difference_on.result c.first_difference_on.ensures.none (λ all S is proper.
+    refines-where c.args.small.now S is proper c.one_trace.ensures c.one_image.ensures all)
