@@ -1,2 +1,16 @@
 //! The checked set that a tree or a text spells, or the first of its faults.
 #![tactic(auto)]
+
+mod cycles;
+mod fault;
+mod forms_law;
+mod judging;
+mod numbers;
+mod terms_law;
+mod typing;
+mod uses;
+
+pub use fault::TypeFault;
+pub use forms_law::lawful_form;
+pub use terms_law::lawful_terms;
+pub use typing::type_set;

@@ -1,0 +1,6 @@
+pub mod ChainLemmas
+pub mod CycleLemmas
+pub mod FirstFaultLemmas
+pub mod NumberingLemmas
+pub mod SetLemmas
+pub mod UsesLemmas
