@@ -1,2 +1,9 @@
+pub mod ChainLemmas
+pub mod CycleLemmas
+pub mod FirstFaultLemmas
+pub mod NumberingLemmas
+pub mod OneSetLemmas
+pub mod SetLemmas
+pub mod UsesLemmas
 pub mod forms
 pub mod terms

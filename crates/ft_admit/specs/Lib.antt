@@ -1,2 +1,3 @@
 pub mod laws
 pub mod meaning
+pub mod stages

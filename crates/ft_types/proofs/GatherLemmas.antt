@@ -16,7 +16,7 @@ use Rattle.ft_tree.specs.declared.item.SectionWord.TheVariants.{In, Req, Sof, Ou
 use Rattle.ft_names.specs.laws.First.{first_of-append, option_or-None}
 use Rattle.ft_names.specs.meaning.Declared.{Listing, is_among, names_in}
 use Rattle.ft_names.specs.meaning.First.{Answers, first_of}
-use Rattle.ft_types.specs.declared.fault.TypeFault.{TypeFault}
+use Rattle.ft_types.specs.declared.fault.ItemFault.{ItemFault}
 use Rattle.ft_types.specs.gathering.Gathered.{AreGathered, Gathers, HasTitles, again}
 use Rattle.ft_types.specs.meaning.Shapes.{title}
 use Rattle.ft_types.specs.meaning.Sides.{same_section_word}
@@ -96,7 +96,7 @@ twice-again : (defined : List Target) (s : SectionWord) (word : Word) (fresh : B
 twice-again defined s word true there = rw there refl
 twice-again defined s word false there = rw there refl
 
-told-one : (was now : Option TypeFault) (fresh : Bool) (s : SectionWord) (word : Word) (defined : List Target)
+told-one : (was now : Option ItemFault) (fresh : Bool) (s : SectionWord) (word : Word) (defined : List Target)
     → is_defined defined s word.text ≡ not fresh → was ≡ first_twice defined → now ≡ option_or was (again fresh s word)
     → now ≡ first_twice (defined ++ (s, word) ∷ [])
 told-one was now fresh s word defined there told made =
@@ -106,7 +106,7 @@ told-one was now fresh s word defined there told made =
     ∙ sym (first_of-append twice (in_turn [] defined) (in_turn defined ((s, word) ∷ [])))
     ∙ ap (first_of twice) (sym (in_turn-append [] defined ((s, word) ∷ [])))
 
-pub gathers-one : (old new : Listing) (was now : Option TypeFault) (fresh : Bool) (s : SectionWord) (word : Word)
+pub gathers-one : (old new : Listing) (was now : Option ItemFault) (fresh : Bool) (s : SectionWord) (word : Word)
     → MatchBool fresh (new ≡ old ++ (title s word.text, 0) ∷ []) (new ≡ old) → is_among (names_in old) (title s word.text) ≡ not fresh
     → now ≡ option_or was (again fresh s word) → Gathers old new was now ((s, word) ∷ [])
 gathers-one old new was now fresh s word made there kept defined g = record {
@@ -114,10 +114,10 @@ gathers-one old new was now fresh s word made there kept defined g = record {
   told = told-one was now fresh s word defined (sym (g.held s word.text) ∙ there) g.told kept;
 }
 
-pub gathers-none : (titles : Listing) (second : Option TypeFault) → Gathers titles titles second second []
+pub gathers-none : (titles : Listing) (second : Option ItemFault) → Gathers titles titles second second []
 gathers-none titles second defined g = subst (AreGathered titles second) (sym (append-nil defined)) g
 
-pub gathers-more : (a b c : Listing) (x y z : Option TypeFault) (front here all : List Target) → all ≡ front ++ here
+pub gathers-more : (a b c : Listing) (x y z : Option ItemFault) (front here all : List Target) → all ≡ front ++ here
     → Gathers a b x y front → Gathers b c y z here → Gathers a c x z all
 gathers-more a b c x y z front here all is first next defined g =
     subst (AreGathered c z) (append_assoc defined front here ∙ ap (λ l. defined ++ l) (sym is)) (next (defined ++ front) (first defined g))
@@ -137,7 +137,7 @@ nothing-gathered titles empty = record {
 
 -- both kinds of faults of tables
 
-pub lack-stops : (stop : Stop TypeFault) (items given : List Item) → given ≡ items
+pub lack-stops : (stop : Stop ItemFault) (items given : List Item) → given ≡ items
     → Answers {A = Unit {0}} (Err stop) (first_of (item_lack (targets given)) given) → Answers {A = Unit {0}} (Err stop)
     (first_table_fault items)
 lack-stops (Fault fault) items given same found =
@@ -145,7 +145,7 @@ lack-stops (Fault fault) items given same found =
     (ap (λ o. option_or o (first_twice (targets given))) found)
 lack-stops NoMemory items given same found = tt
 
-pub twice-answers : {A : Type 0} (result : Result A (Stop TypeFault)) (items given : List Item) (second : Option TypeFault) → given ≡ items
+pub twice-answers : {A : Type 0} (result : Result A (Stop ItemFault)) (items given : List Item) (second : Option ItemFault) → given ≡ items
     → first_of (item_lack (targets given)) given ≡ None → second ≡ first_twice (targets given) → Answers result second
     → Answers result (first_table_fault items)
 twice-answers result items given second same none told found =

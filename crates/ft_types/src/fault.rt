@@ -7,7 +7,7 @@ use ft_names::Stop;
 
 /// Why a tree spells no set.
 #[derive(Drop)]
-pub enum TypeFault {
+pub enum ItemFault {
     /// A variable, a memory, `prev` or `age` stands where it may not be read, a table defines a variable of another section,
     /// or `takes` names a monitored or input variable.
     WrongSide {
@@ -49,7 +49,7 @@ pub enum TypeFault {
 }
 
 // The fault, unless all is right.
-pub(crate) fn unless(right: bool, fault: TypeFault) -> Result<(), Stop<TypeFault>>
+pub(crate) fn unless(right: bool, fault: ItemFault) -> Result<(), Stop<ItemFault>>
     ensures { Answers result (unless right fault) }
 {
     if right {

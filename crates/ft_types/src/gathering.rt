@@ -5,7 +5,7 @@ ghost use Rattle.ft_tree.specs.meaning.Limits.{is_item};
 ghost use Rattle.ft_types.specs.gathering.Gathered.{AreGathered, Gathers, again};
 ghost use Rattle.ft_types.specs.meaning.Targets.{item_targets, section_of, targets};
 
-use crate::fault::TypeFault;
+use crate::fault::ItemFault;
 use crate::shapes::title;
 use ft_base::{List, NoMemory};
 use ft_core::Section;
@@ -27,7 +27,7 @@ pub fn section_of(section: SectionWord) -> Section
 
 // Keeps a target that stands before, where it is the first such.
 fn keep_second(
-    second: &mut Option<TypeFault>,
+    second: &mut Option<ItemFault>,
     alloc: Global,
     section: SectionWord,
     word: &Word,
@@ -42,7 +42,7 @@ fn keep_second(
         return Ok(());
     }
     let name = List::copy_of(alloc, word.text.as_slice())?;
-    *second = Some(TypeFault::TwoTables {
+    *second = Some(ItemFault::TwoTables {
         section: section_of(section),
         name,
         place: word.place,
@@ -53,7 +53,7 @@ fn keep_second(
 // Takes one target, and keeps it where it is the first that stands twice.
 fn gather(
     titles: &mut Names,
-    second: &mut Option<TypeFault>,
+    second: &mut Option<ItemFault>,
     alloc: Global,
     section: SectionWord,
     word: &Word,
@@ -71,7 +71,7 @@ fn gather(
 // Takes the targets of a vector table.
 fn gather_rows(
     titles: &mut Names,
-    second: &mut Option<TypeFault>,
+    second: &mut Option<ItemFault>,
     alloc: Global,
     section: SectionWord,
     rows: &[VRow],
@@ -89,7 +89,7 @@ fn gather_rows(
 // Takes the targets of an item.
 fn gather_item(
     titles: &mut Names,
-    second: &mut Option<TypeFault>,
+    second: &mut Option<ItemFault>,
     alloc: Global,
     item: &Item,
 ) -> Result<(), NoMemory>
@@ -119,7 +119,7 @@ fn gather_item(
 // Takes the targets of items.
 fn gather_items(
     titles: &mut Names,
-    second: &mut Option<TypeFault>,
+    second: &mut Option<ItemFault>,
     alloc: Global,
     items: &[Item],
 ) -> Result<(), NoMemory>
@@ -137,7 +137,7 @@ fn gather_items(
 #[derive(Drop)]
 pub struct Gathered {
     pub titles: Names,
-    pub second: Option<TypeFault>,
+    pub second: Option<ItemFault>,
 }
 
 /// Takes the targets of a set, in the order of the text.

@@ -8,7 +8,7 @@ ghost use Rattle.ft_types.specs.meaning.Shapes.{item_shape};
 ghost use Rattle.ft_types.specs.meaning.Targets.{first_table_fault};
 
 use crate::examine::examine_items;
-use crate::fault::TypeFault;
+use crate::fault::ItemFault;
 use crate::gathering::gather_set;
 use crate::lacking::{Lacks, found};
 use crate::mismatch::Mismatches;
@@ -21,7 +21,7 @@ use std::alloc::Global;
 
 /// Looks for the first place of a tree where something stands that may not be read there, that the table's section doesn't
 /// define, or that no block may take.
-pub fn judge_sides(alloc: Global, cards: &Cards, tree: &Tree) -> Result<(), Stop<TypeFault>>
+pub fn judge_sides(alloc: Global, cards: &Cards, tree: &Tree) -> Result<(), Stop<ItemFault>>
     requires { cards.now ≡ cards_of tree.now.items }
     ensures answers { Answers result (first_wrong_side tree.now.items) }
 {
@@ -29,7 +29,7 @@ pub fn judge_sides(alloc: Global, cards: &Cards, tree: &Tree) -> Result<(), Stop
 }
 
 /// Looks for the first expression or name of a tree that is of the wrong kind.
-pub fn judge_kinds(cards: &Cards, tree: &Tree) -> Result<(), Stop<TypeFault>>
+pub fn judge_kinds(cards: &Cards, tree: &Tree) -> Result<(), Stop<ItemFault>>
     requires { cards.now ≡ cards_of tree.now.items }
     ensures answers { Answers result (first_mismatch tree.now.items) }
 {
@@ -38,7 +38,7 @@ pub fn judge_kinds(cards: &Cards, tree: &Tree) -> Result<(), Stop<TypeFault>>
 
 /// Looks for the first number of a tree that is out of its range: the period, the splits, the depth, a bound or an `init`.
 #[tactic(auto, using(ft_names::specs::laws::First::firsts))]
-pub fn judge_ranges(names: &Names, tree: &Tree) -> Result<(), Stop<TypeFault>>
+pub fn judge_ranges(names: &Names, tree: &Tree) -> Result<(), Stop<ItemFault>>
     requires { names.now ≡ listing 0 tree.now.items }
     ensures { Answers result (first_bad_range tree.now.period tree.now.splits tree.now.depth tree.now.items) }
 {
@@ -48,7 +48,7 @@ pub fn judge_ranges(names: &Names, tree: &Tree) -> Result<(), Stop<TypeFault>>
 }
 
 /// Looks for the first hold of a tree that is out of its range.
-pub fn judge_holds(names: &Names, tree: &Tree) -> Result<(), Stop<TypeFault>>
+pub fn judge_holds(names: &Names, tree: &Tree) -> Result<(), Stop<ItemFault>>
     requires { names.now ≡ listing 0 tree.now.items }
     ensures { Answers result (first_of (item_hold tree.now.items) tree.now.items) }
 {
@@ -57,7 +57,7 @@ pub fn judge_holds(names: &Names, tree: &Tree) -> Result<(), Stop<TypeFault>>
 }
 
 /// Looks for the first band of a tree whose lower bound isn't below the upper one.
-pub fn judge_bands(names: &Names, tree: &Tree) -> Result<(), Stop<TypeFault>>
+pub fn judge_bands(names: &Names, tree: &Tree) -> Result<(), Stop<ItemFault>>
     requires { names.now ≡ listing 0 tree.now.items }
     ensures { Answers result (first_of (item_band tree.now.items) tree.now.items) }
 {
@@ -66,7 +66,7 @@ pub fn judge_bands(names: &Names, tree: &Tree) -> Result<(), Stop<TypeFault>>
 }
 
 /// Looks for the first row of a tree that has not as many entries as its table's header.
-pub fn judge_shapes(alloc: Global, tree: &Tree) -> Result<(), Stop<TypeFault>>
+pub fn judge_shapes(alloc: Global, tree: &Tree) -> Result<(), Stop<ItemFault>>
     ensures { Answers result (first_of item_shape tree.now.items) }
 {
     examine_items(&Shapes { alloc }, tree.items.as_slice())
@@ -74,7 +74,7 @@ pub fn judge_shapes(alloc: Global, tree: &Tree) -> Result<(), Stop<TypeFault>>
 
 /// Looks for the first variable of a tree that lacks a table, and where there is none for the first that a section defines a
 /// second time.
-pub fn judge_tables(alloc: Global, tree: &Tree) -> Result<(), Stop<TypeFault>>
+pub fn judge_tables(alloc: Global, tree: &Tree) -> Result<(), Stop<ItemFault>>
     ensures { Answers result (first_table_fault tree.now.items) }
 {
     few_items();

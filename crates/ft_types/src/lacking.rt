@@ -5,7 +5,7 @@ ghost use Rattle.ft_types.specs.gathering.Gathered.{HasTitles};
 ghost use Rattle.ft_types.specs.meaning.Targets.{item_lack, lack, section_of, targets};
 
 use crate::examine::Examine;
-use crate::fault::TypeFault;
+use crate::fault::ItemFault;
 use crate::gathering::section_of;
 use crate::shapes::title;
 use ft_base::List;
@@ -14,7 +14,7 @@ use ft_tree::{Item, SectionWord, VarWord, Word};
 use std::alloc::Global;
 
 /// A fault that was found before, where there is one.
-pub fn found(fault: Option<TypeFault>) -> Result<(), Stop<TypeFault>>
+pub fn found(fault: Option<ItemFault>) -> Result<(), Stop<ItemFault>>
     ensures { Answers result fault }
 {
     match fault {
@@ -33,7 +33,7 @@ pub struct Lacks<'t> {
 
 impl<'t> Lacks<'t> {
     // The table of a variable in a section.
-    fn lack(&self, section: SectionWord, name: &Word) -> Result<(), Stop<TypeFault>>
+    fn lack(&self, section: SectionWord, name: &Word) -> Result<(), Stop<ItemFault>>
         requires { HasTitles self.now.titles.now (targets self.now.items.now) }
         ensures { Answers result (lack (targets self.now.items.now) section name.now) }
     {
@@ -42,7 +42,7 @@ impl<'t> Lacks<'t> {
             Ok(())
         } else {
             let name = List::copy_of(self.alloc, name.text.as_slice())?;
-            Err(Stop::Fault(TypeFault::NoTable {
+            Err(Stop::Fault(ItemFault::NoTable {
                 section: section_of(section),
                 name,
             }))
@@ -50,7 +50,7 @@ impl<'t> Lacks<'t> {
     }
 
     // The two tables of a controlled variable.
-    fn lack_controlled(&self, name: &Word) -> Result<(), Stop<TypeFault>>
+    fn lack_controlled(&self, name: &Word) -> Result<(), Stop<ItemFault>>
         requires { HasTitles self.now.titles.now (targets self.now.items.now) }
         ensures { Answers result (option_or (lack (targets self.now.items.now) Req name.now)
             (lack (targets self.now.items.now) Out name.now)) }
@@ -68,7 +68,7 @@ impl<'t> Examine for Lacks<'t> {
 
     ghost ready = { λ s. HasTitles s.titles.now (targets s.items.now) };
 
-    fn item(&self, item: &Item) -> Result<(), Stop<TypeFault>> {
+    fn item(&self, item: &Item) -> Result<(), Stop<ItemFault>> {
         match item {
             Item::Variable { kind, name, .. } => match kind {
                 VarWord::Mon => Ok(()),

@@ -15,7 +15,7 @@ mod shapes;
 mod sides;
 
 pub use examine::{Examine, examine_items};
-pub use fault::TypeFault;
+pub use fault::ItemFault;
 pub use judging::{
     judge_bands, judge_holds, judge_kinds, judge_ranges, judge_shapes, judge_sides, judge_tables,
 };

@@ -3,7 +3,7 @@ ghost use Rattle.ft_names.specs.meaning.Cards.{under};
 ghost use Rattle.ft_types.specs.meaning.Mismatch.{card_kind, is_timer, is_unreadable, is_variable, is_wrong, kind_of, mismatch, place_of};
 ghost use Rattle.ft_types.specs.meaning.Mismatch.{values_kind};
 
-use crate::fault::TypeFault;
+use crate::fault::ItemFault;
 use crate::kinds::{is_comparable, is_met, op_kind};
 use ft_base::Place;
 use ft_names::{Asked, Card, Cards, ExprKind, Inspect, Stop, Values};
@@ -138,14 +138,14 @@ pub struct Mismatches<'c> {
 }
 
 impl<'c> Inspect for Mismatches<'c> {
-    type Fault = TypeFault;
+    type Fault = ItemFault;
 
     ghost test = { λ s. mismatch (under s.cards.now) };
 
     #[tactic(auto, unfolding(crate::specs::meaning::Mismatch::mismatch))]
-    fn part(&self, asked: Asked, expr: &Expr) -> Result<(), Stop<TypeFault>> {
+    fn part(&self, asked: Asked, expr: &Expr) -> Result<(), Stop<ItemFault>> {
         if is_wrong(self.cards, expr) || !is_met(asked, kind_of(self.cards, expr)) {
-            Err(Stop::Fault(TypeFault::TypeMismatch {
+            Err(Stop::Fault(ItemFault::TypeMismatch {
                 place: place_of(expr),
             }))
         } else {

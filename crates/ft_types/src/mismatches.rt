@@ -5,7 +5,7 @@ ghost use Rattle.ft_types.specs.meaning.Mismatch.{asked_for, asked_of_kind, fits
 ghost use Rattle.ft_types.specs.meaning.Mismatch.{is_member_name, is_member_of, is_truth, is_value_of, is_whole, mismatch_at};
 ghost use Rattle.ft_types.specs.meaning.Mismatch.{mismatch_spot, named_values, is_type, type_kind};
 
-use crate::fault::TypeFault;
+use crate::fault::ItemFault;
 use crate::mismatch::{Mismatches, is_variable, values_kind};
 use ft_base::Place;
 use ft_names::{Asked, Card, Cards, ExprKind, Judge, Role, Site, Stop, Values, inspect_parts};
@@ -103,13 +103,13 @@ fn asked_for(card: Option<Card>) -> Asked
     }
 }
 
-fn mismatch_at(place: Place, right: bool) -> Result<(), Stop<TypeFault>>
+fn mismatch_at(place: Place, right: bool) -> Result<(), Stop<ItemFault>>
     ensures { Answers result (mismatch_at place right) }
 {
     if right {
         Ok(())
     } else {
-        Err(Stop::Fault(TypeFault::TypeMismatch { place }))
+        Err(Stop::Fault(ItemFault::TypeMismatch { place }))
     }
 }
 
@@ -166,40 +166,40 @@ fn is_value_of(cards: &Cards, kind: ExprKind, init: &Bound) -> bool
 }
 
 impl<'c> Judge for Mismatches<'c> {
-    type Fault = TypeFault;
+    type Fault = ItemFault;
 
     ghost use Rattle.ft_names.specs.meaning.Cards.{under};
     ghost use Rattle.ft_types.specs.meaning.Mismatch.{mismatch_spot};
 
     ghost test = { λ s. mismatch_spot (under s.cards.now) };
 
-    fn named(&self, role: Role, word: &Word) -> Result<(), Stop<TypeFault>> {
+    fn named(&self, role: Role, word: &Word) -> Result<(), Stop<ItemFault>> {
         mismatch_at(
             word.place,
             fits(role, self.cards.find(word.text.as_slice())),
         )
     }
 
-    fn bound(&self, value: &Bound) -> Result<(), Stop<TypeFault>> {
+    fn bound(&self, value: &Bound) -> Result<(), Stop<ItemFault>> {
         mismatch_at(value.place, is_whole(self.cards, &value.value))
     }
 
-    fn initial(&self, of: &Kind, value: &Bound) -> Result<(), Stop<TypeFault>> {
+    fn initial(&self, of: &Kind, value: &Bound) -> Result<(), Stop<ItemFault>> {
         mismatch_at(
             value.place,
             is_value_of(self.cards, type_kind(self.cards, of), value),
         )
     }
 
-    fn condition(&self, _site: Site, expr: &Expr) -> Result<(), Stop<TypeFault>> {
+    fn condition(&self, _site: Site, expr: &Expr) -> Result<(), Stop<ItemFault>> {
         inspect_parts(self, Asked::Condition, expr)
     }
 
-    fn number(&self, _site: Site, expr: &Expr) -> Result<(), Stop<TypeFault>> {
+    fn number(&self, _site: Site, expr: &Expr) -> Result<(), Stop<ItemFault>> {
         inspect_parts(self, Asked::Term(ExprKind::Number), expr)
     }
 
-    fn term_for(&self, _site: Site, word: &Word, expr: &Expr) -> Result<(), Stop<TypeFault>> {
+    fn term_for(&self, _site: Site, word: &Word, expr: &Expr) -> Result<(), Stop<ItemFault>> {
         inspect_parts(self, asked_for(self.cards.find(word.text.as_slice())), expr)
     }
 }

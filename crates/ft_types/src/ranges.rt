@@ -9,7 +9,7 @@ ghost use Rattle.ft_types.specs.meaning.Ranges.{init_fault, item_band, item_hold
 ghost use Rattle.ft_types.specs.meaning.Ranges.{range_fault, set_range};
 
 use crate::examine::Examine;
-use crate::fault::{TypeFault, unless};
+use crate::fault::{ItemFault, unless};
 use ft_names::{Names, Stop, Values, bound_value, kind_values};
 use ft_tree::{Bound, Item, Kind, Number};
 
@@ -20,7 +20,7 @@ fn lies(lo: i64, hi: i64, number: i64) -> bool
 }
 
 // A lower bound above the upper one.
-fn range_fault(names: &Names, items: &[Item], lo: &Bound, hi: &Bound) -> Result<(), Stop<TypeFault>>
+fn range_fault(names: &Names, items: &[Item], lo: &Bound, hi: &Bound) -> Result<(), Stop<ItemFault>>
     requires named { names.now ≡ listing 0 items.now }
     requires lawful { IsTrue (list_all is_item items.now) }
     requires lo { IsTrue (is_bound lo.now) }
@@ -28,10 +28,10 @@ fn range_fault(names: &Names, items: &[Item], lo: &Bound, hi: &Bound) -> Result<
     ensures { Answers result (range_fault items.now lo.now hi.now) }
 {
     let right = bound_value(names, items, lo) <= bound_value(names, items, hi);
-    unless(right, TypeFault::BadRange { place: lo.place })
+    unless(right, ItemFault::BadRange { place: lo.place })
 }
 
-fn kind_fault(names: &Names, items: &[Item], of: &Kind) -> Result<(), Stop<TypeFault>>
+fn kind_fault(names: &Names, items: &[Item], of: &Kind) -> Result<(), Stop<ItemFault>>
     requires named { names.now ≡ listing 0 items.now }
     requires lawful { IsTrue (list_all is_item items.now) }
     requires here { IsTrue (is_kind of.now) }
@@ -49,7 +49,7 @@ fn init_fault(
     items: &[Item],
     values: Values,
     init: &Bound,
-) -> Result<(), Stop<TypeFault>>
+) -> Result<(), Stop<ItemFault>>
     requires named { names.now ≡ listing 0 items.now }
     requires lawful { IsTrue (list_all is_item items.now) }
     requires here { IsTrue (is_init init.now) }
@@ -58,7 +58,7 @@ fn init_fault(
     match values {
         Values::Numbers { lo, hi } => unless(
             lies(lo, hi, bound_value(names, items, init)),
-            TypeFault::BadRange { place: init.place },
+            ItemFault::BadRange { place: init.place },
         ),
         Values::Truths | Values::Members { .. } | Values::Untyped => Ok(()),
     }
@@ -70,7 +70,7 @@ fn variable_fault(
     items: &[Item],
     of: &Kind,
     init: &Bound,
-) -> Result<(), Stop<TypeFault>>
+) -> Result<(), Stop<ItemFault>>
     requires named { names.now ≡ listing 0 items.now }
     requires lawful { IsTrue (list_all is_item items.now) }
     requires kind { IsTrue (is_kind of.now) }
@@ -81,19 +81,19 @@ fn variable_fault(
     init_fault(names, items, kind_values(names, items, of), init)
 }
 
-fn number_fault(lo: i64, hi: i64, number: Number) -> Result<(), Stop<TypeFault>>
+fn number_fault(lo: i64, hi: i64, number: Number) -> Result<(), Stop<ItemFault>>
     requires { IsTrue (is_number number.value) }
     ensures { Answers result (number_fault lo hi number) }
 {
     unless(
         lies(lo, hi, number.value as i64),
-        TypeFault::BadRange {
+        ItemFault::BadRange {
             place: number.place,
         },
     )
 }
 
-fn option_fault(lo: i64, hi: i64, number: Option<Number>) -> Result<(), Stop<TypeFault>>
+fn option_fault(lo: i64, hi: i64, number: Option<Number>) -> Result<(), Stop<ItemFault>>
     requires { IsTrue (is_option number) }
     ensures { Answers result (option_fault lo hi number) }
 {
@@ -108,7 +108,7 @@ pub fn set_range(
     period: Number,
     splits: Option<Number>,
     depth: Option<Number>,
-) -> Result<(), Stop<TypeFault>>
+) -> Result<(), Stop<ItemFault>>
     requires period { IsTrue (is_number period.value) }
     requires splits { IsTrue (is_option splits) }
     requires depth { IsTrue (is_option depth) }
@@ -137,7 +137,7 @@ impl<'t> Examine for Ranges<'t> {
 
     ghost ready = { λ s. (s.names.now ≡ listing 0 s.items.now) × IsTrue (list_all is_item s.items.now) };
 
-    fn item(&self, item: &Item) -> Result<(), Stop<TypeFault>> {
+    fn item(&self, item: &Item) -> Result<(), Stop<ItemFault>> {
         match item {
             Item::RangeType { lo, hi, .. } => range_fault(self.names, self.items, lo, hi),
             Item::Variable { of, init, .. } => { variable_fault(self.names, self.items, of, init) }
@@ -164,11 +164,11 @@ impl<'t> Examine for Holds<'t> {
 
     ghost ready = { λ s. (s.names.now ≡ listing 0 s.items.now) × IsTrue (list_all is_item s.items.now) };
 
-    fn item(&self, item: &Item) -> Result<(), Stop<TypeFault>> {
+    fn item(&self, item: &Item) -> Result<(), Stop<ItemFault>> {
         match item {
             Item::Held { hold, .. } => unless(
                 lies(0, 1_000_000, bound_value(self.names, self.items, hold)),
-                TypeFault::BadHold { place: hold.place },
+                ItemFault::BadHold { place: hold.place },
             ),
             _ => Ok(()),
         }
@@ -193,12 +193,12 @@ impl<'t> Examine for Bands<'t> {
 
     ghost ready = { λ s. (s.names.now ≡ listing 0 s.items.now) × IsTrue (list_all is_item s.items.now) };
 
-    fn item(&self, item: &Item) -> Result<(), Stop<TypeFault>> {
+    fn item(&self, item: &Item) -> Result<(), Stop<ItemFault>> {
         match item {
             Item::Hyst { lo, hi, .. } => {
                 let right = bound_value(self.names, self.items, lo)
                     < bound_value(self.names, self.items, hi);
-                unless(right, TypeFault::BadBand { place: lo.place })
+                unless(right, ItemFault::BadBand { place: lo.place })
             }
             _ => Ok(()),
         }

@@ -3,7 +3,7 @@ ghost use Rattle.ft_names.specs.meaning.First.{Answers, first_of};
 ghost use Rattle.ft_types.specs.meaning.Shapes.{entries_fault, first_target, item_shape, row_fault, section_name, title, vector_row_fault};
 
 use crate::examine::Examine;
-use crate::fault::TypeFault;
+use crate::fault::ItemFault;
 use ft_base::{List, NoMemory, Place, Text};
 use ft_names::Stop;
 use ft_tree::{Item, Row, SectionWord, VRow};
@@ -38,14 +38,14 @@ fn entries_fault(
     columns: usize,
     entries: usize,
     place: Place,
-) -> Result<(), Stop<TypeFault>>
+) -> Result<(), Stop<ItemFault>>
     ensures { Answers result (entries_fault section name.now columns entries place) }
 {
     if entries == columns {
         Ok(())
     } else {
         let title = title(alloc, section, name)?;
-        Err(Stop::Fault(TypeFault::Shape { title, place }))
+        Err(Stop::Fault(ItemFault::Shape { title, place }))
     }
 }
 
@@ -55,7 +55,7 @@ fn rows_fault(
     name: &[u8],
     columns: usize,
     rows: &[Row],
-) -> Result<(), Stop<TypeFault>>
+) -> Result<(), Stop<ItemFault>>
     ensures { Answers result (first_of (row_fault section name.now columns) rows.now) }
 {
     for row in rows {
@@ -70,7 +70,7 @@ fn vector_rows_fault(
     name: &[u8],
     columns: usize,
     rows: &[VRow],
-) -> Result<(), Stop<TypeFault>>
+) -> Result<(), Stop<ItemFault>>
     ensures { Answers result (first_of (vector_row_fault section name.now columns) rows.now) }
 {
     for row in rows {
@@ -85,7 +85,7 @@ fn vector_fault(
     section: SectionWord,
     columns: usize,
     rows: &[VRow],
-) -> Result<(), Stop<TypeFault>>
+) -> Result<(), Stop<ItemFault>>
     ensures { Answers result (first_of (vector_row_fault section (first_target rows.now) columns) rows.now) }
 {
     match rows.first() {
@@ -109,7 +109,7 @@ impl Examine for Shapes {
 
     ghost ready = { λ s. Unit {0} };
 
-    fn item(&self, item: &Item) -> Result<(), Stop<TypeFault>> {
+    fn item(&self, item: &Item) -> Result<(), Stop<ItemFault>> {
         match item {
             Item::Normal {
                 section,

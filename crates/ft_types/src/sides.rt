@@ -3,7 +3,7 @@ ghost use Rattle.ft_names.specs.meaning.Cards.{under};
 ghost use Rattle.ft_names.specs.meaning.First.{Answers};
 ghost use Rattle.ft_types.specs.meaning.Sides.{may_read, side_in, side_spot, wrong_history, wrong_name, wrong_side};
 
-use crate::fault::TypeFault;
+use crate::fault::ItemFault;
 use crate::reading::{has_age, has_prev, may_read, may_use};
 use ft_base::{List, Place};
 use ft_names::{Asked, Card, Cards, Inspect, Judge, Role, Site, Stop, inspect_parts};
@@ -16,14 +16,14 @@ fn wrong_name(
     name: &[u8],
     place: Place,
     allowed: bool,
-) -> Result<(), Stop<TypeFault>>
+) -> Result<(), Stop<ItemFault>>
     ensures { Answers result (wrong_name name.now place allowed) }
 {
     if allowed {
         Ok(())
     } else {
         let name = List::copy_of(alloc, name)?;
-        Err(Stop::Fault(TypeFault::WrongSide { name, place }))
+        Err(Stop::Fault(ItemFault::WrongSide { name, place }))
     }
 }
 
@@ -37,7 +37,7 @@ struct AtSite<'c> {
 
 impl<'c> AtSite<'c> {
     // The fault of a name there.
-    fn name(&self, name: &[u8], place: Place) -> Result<(), Stop<TypeFault>>
+    fn name(&self, name: &[u8], place: Place) -> Result<(), Stop<ItemFault>>
         ensures { Answers result (wrong_name name.now place (may_read self.now.site (under self.now.cards.now name.now))) }
     {
         let allowed = may_read(self.site, self.cards.find(name));
@@ -51,7 +51,7 @@ impl<'c> AtSite<'c> {
         word: &[u8],
         name: &[u8],
         place: Place,
-    ) -> Result<(), Stop<TypeFault>>
+    ) -> Result<(), Stop<ItemFault>>
         ensures { Answers result (wrong_history (under self.now.cards.now) self.now.site allowed word.now name.now place) }
     {
         if allowed {
@@ -63,12 +63,12 @@ impl<'c> AtSite<'c> {
 }
 
 impl<'c> Inspect for AtSite<'c> {
-    type Fault = TypeFault;
+    type Fault = ItemFault;
 
     ghost test = { λ s asked. wrong_side (under s.cards.now) s.site };
 
     #[tactic(auto, using(ft_names::specs::laws::Parts::opens), unfolding(crate::specs::meaning::Sides::wrong_side))]
-    fn part(&self, _asked: Asked, expr: &Expr) -> Result<(), Stop<TypeFault>> {
+    fn part(&self, _asked: Asked, expr: &Expr) -> Result<(), Stop<ItemFault>> {
         match expr {
             Expr::Name { name, place } => self.name(name.as_slice(), *place),
             Expr::Prev { name, place } => {
@@ -95,7 +95,7 @@ pub struct Sides<'c> {
 
 impl<'c> Sides<'c> {
     // The first part of an expression that may not be read at a site.
-    fn read(&self, site: Site, expr: &Expr) -> Result<(), Stop<TypeFault>>
+    fn read(&self, site: Site, expr: &Expr) -> Result<(), Stop<ItemFault>>
         ensures { Answers result (side_in (under self.now.cards.now) site expr.now) }
     {
         let reader = AtSite {
@@ -108,35 +108,35 @@ impl<'c> Sides<'c> {
 }
 
 impl<'c> Judge for Sides<'c> {
-    type Fault = TypeFault;
+    type Fault = ItemFault;
 
     ghost use Rattle.ft_names.specs.meaning.Cards.{under};
     ghost use Rattle.ft_types.specs.meaning.Sides.{side_spot};
 
     ghost test = { λ s. side_spot (under s.cards.now) };
 
-    fn named(&self, role: Role, word: &Word) -> Result<(), Stop<TypeFault>> {
+    fn named(&self, role: Role, word: &Word) -> Result<(), Stop<ItemFault>> {
         let allowed = may_use(role, self.cards.find(word.text.as_slice()));
         wrong_name(self.alloc, word.text.as_slice(), word.place, allowed)
     }
 
-    fn bound(&self, _value: &Bound) -> Result<(), Stop<TypeFault>> {
+    fn bound(&self, _value: &Bound) -> Result<(), Stop<ItemFault>> {
         Ok(())
     }
 
-    fn initial(&self, _of: &Kind, _value: &Bound) -> Result<(), Stop<TypeFault>> {
+    fn initial(&self, _of: &Kind, _value: &Bound) -> Result<(), Stop<ItemFault>> {
         Ok(())
     }
 
-    fn condition(&self, site: Site, expr: &Expr) -> Result<(), Stop<TypeFault>> {
+    fn condition(&self, site: Site, expr: &Expr) -> Result<(), Stop<ItemFault>> {
         self.read(site, expr)
     }
 
-    fn number(&self, site: Site, expr: &Expr) -> Result<(), Stop<TypeFault>> {
+    fn number(&self, site: Site, expr: &Expr) -> Result<(), Stop<ItemFault>> {
         self.read(site, expr)
     }
 
-    fn term_for(&self, site: Site, _word: &Word, expr: &Expr) -> Result<(), Stop<TypeFault>> {
+    fn term_for(&self, site: Site, _word: &Word, expr: &Expr) -> Result<(), Stop<ItemFault>> {
         self.read(site, expr)
     }
 }

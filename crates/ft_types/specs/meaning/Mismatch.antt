@@ -7,8 +7,8 @@ use Rattle.ft_names.specs.declared.card.Values.{Values}
 use Rattle.ft_names.specs.declared.card.Values.TheVariants.{Numbers, Truths, Members, Untyped}
 use Rattle.ft_tree.specs.declared.expr.Expr.{Expr, Expr-F, out-Expr}
 use Rattle.ft_tree.specs.declared.expr.Expr.TheOpen as layer
-use Rattle.ft_types.specs.declared.fault.TypeFault.{TypeFault}
-use Rattle.ft_types.specs.declared.fault.TypeFault.TheVariants.{TypeMismatch}
+use Rattle.ft_types.specs.declared.fault.ItemFault.{ItemFault}
+use Rattle.ft_types.specs.declared.fault.ItemFault.TheVariants.{TypeMismatch}
 use Rattle.ft_names.specs.declared.asked.Asked.{Asked}
 use Rattle.ft_names.specs.declared.asked.ExprKind.{ExprKind}
 use Rattle.ft_names.specs.declared.asked.ExprKind.TheVariants as kind
@@ -102,7 +102,7 @@ unfoldable pub is_wrong : Env → Expr → Bool
 is_wrong env e = layer_wrong env (out-Expr e)
 
 -- the fault of a part of an expression: it is wrong itself, or isn't what its place asks
-unfoldable pub mismatch : Env → Asked → Expr → Option TypeFault
+unfoldable pub mismatch : Env → Asked → Expr → Option ItemFault
 mismatch env asked e = if is_wrong env e || not (is_met asked (kind_of env e)) then Some (TypeMismatch (place_of e)) else None
 
 abbrev pub is_type : Option Card → Bool
@@ -182,11 +182,11 @@ abbrev pub asked_for : Option Card → Asked
 asked_for (Some (Variable place word values)) = asked_of_kind (values_kind values)
 asked_for _ = asked.Anything
 
-abbrev pub mismatch_at : Place → (right : Bool) → Option TypeFault
+abbrev pub mismatch_at : Place → (right : Bool) → Option ItemFault
 mismatch_at place right = if right then None else Some (TypeMismatch place)
 
 -- the first fault of the wrong kind at a place of the text
-abbrev pub mismatch_spot : Env → Spot → Option TypeFault
+abbrev pub mismatch_spot : Env → Spot → Option ItemFault
 mismatch_spot env (named r word) = mismatch_at word.place (fits r (env word.text))
 mismatch_spot env (bound b) = mismatch_at b.place (is_whole env b.value)
 mismatch_spot env (initial of b) = mismatch_at b.place (is_value_of env (type_kind env of) b)

@@ -5,8 +5,8 @@ use Rattle.ft_names.specs.declared.card.Card.{Card}
 use Rattle.ft_names.specs.declared.card.Card.TheVariants.{Variable, Memory}
 use Rattle.ft_tree.specs.declared.expr.Expr.{Expr, Expr-F, out-Expr}
 use Rattle.ft_tree.specs.declared.expr.Expr.TheOpen as layer
-use Rattle.ft_types.specs.declared.fault.TypeFault.{TypeFault}
-use Rattle.ft_types.specs.declared.fault.TypeFault.TheVariants.{WrongSide}
+use Rattle.ft_types.specs.declared.fault.ItemFault.{ItemFault}
+use Rattle.ft_types.specs.declared.fault.ItemFault.TheVariants.{WrongSide}
 use Rattle.ft_tree.specs.declared.item.VarWord.{VarWord}
 use Rattle.ft_tree.specs.declared.item.VarWord.TheVariants as word
 use Rattle.ft_tree.specs.declared.item.SectionWord.{SectionWord}
@@ -91,15 +91,15 @@ may_read site (Some (Variable place kind values)) = reads site kind
 may_read site (Some (Memory place side hold)) = remembers site side
 may_read site _ = true
 
-abbrev pub wrong_name : List ℕ → Place → (allowed : Bool) → Option TypeFault
+abbrev pub wrong_name : List ℕ → Place → (allowed : Bool) → Option ItemFault
 wrong_name name place allowed = if allowed then None else Some (WrongSide name place)
 
 -- `prev` or `age` where it may not stand, and else the name in its parentheses where that may not be read
-abbrev pub wrong_history : Env → Site → (allowed : Bool) → (word name : List ℕ) → Place → Option TypeFault
+abbrev pub wrong_history : Env → Site → (allowed : Bool) → (word name : List ℕ) → Place → Option ItemFault
 wrong_history env site allowed word name place =
     if allowed then wrong_name name place (may_read site (env name)) else Some (WrongSide word place)
 
-abbrev pub layer_wrong_side : {X : Type 0} → Env → Site → Expr-F X → Option TypeFault
+abbrev pub layer_wrong_side : {X : Type 0} → Env → Site → Expr-F X → Option ItemFault
 layer_wrong_side env site (layer.Name name place) = wrong_name name place (may_read site (env name))
 layer_wrong_side env site (layer.Prev name place) = wrong_history env site (has_prev site) (codes "prev") name place
 layer_wrong_side env site (layer.Age name place) = wrong_history env site (has_age site) (codes "age") name place
@@ -110,10 +110,10 @@ layer_wrong_side env site (layer.Neg of place) = None
 layer_wrong_side env site (layer.Two op left right place) = None
 
 -- the fault of an expression that reads, by itself, what may not be read there
-unfoldable pub wrong_side : Env → Site → Expr → Option TypeFault
+unfoldable pub wrong_side : Env → Site → Expr → Option ItemFault
 wrong_side env site e = layer_wrong_side env site (out-Expr e)
 
-abbrev pub side_in : Env → Site → Expr → Option TypeFault
+abbrev pub side_in : Env → Site → Expr → Option ItemFault
 side_in env site e = first_part (λ _. wrong_side env site) Anything e
 
 -- the tables of a section define variables of this kind
@@ -149,7 +149,7 @@ may_use role.Used card = true
 may_use role.Goal card = true
 
 -- the first fault of the wrong side at a place of the text
-abbrev pub side_spot : Env → Spot → Option TypeFault
+abbrev pub side_spot : Env → Spot → Option ItemFault
 side_spot env (named r w) = wrong_name w.text w.place (may_use r (env w.text))
 side_spot env (bound b) = None
 side_spot env (initial of b) = None

@@ -11,8 +11,8 @@ use Rattle.ft_tree.specs.declared.item.Item.TheVariants.{Normal, Inverted, Vecto
 use Rattle.ft_core.specs.declared.tables.Section.{Section}
 use Rattle.ft_core.specs.declared.tables.Section.TheVariants as core
 use Rattle.ft_names.specs.meaning.First.{first_of}
-use Rattle.ft_types.specs.declared.fault.TypeFault.{TypeFault}
-use Rattle.ft_types.specs.declared.fault.TypeFault.TheVariants.{NoTable, TwoTables}
+use Rattle.ft_types.specs.declared.fault.ItemFault.{ItemFault}
+use Rattle.ft_types.specs.declared.fault.ItemFault.TheVariants.{NoTable, TwoTables}
 use Rattle.ft_types.specs.meaning.Ranges.{unless}
 use Rattle.ft_types.specs.meaning.Sides.{same_section_word}
 
@@ -43,11 +43,11 @@ section_of section.Req = core.Req
 section_of section.Sof = core.Sof
 section_of section.Out = core.Out
 
-abbrev pub lack : List Target → SectionWord → Word → Option TypeFault
+abbrev pub lack : List Target → SectionWord → Word → Option ItemFault
 lack defined s name = unless (is_defined defined s name.text) (NoTable (section_of s) name.text)
 
 -- a declared variable needs a table of each section that is for its kind, REQ before OUT
-abbrev pub item_lack : List Target → Item → Option TypeFault
+abbrev pub item_lack : List Target → Item → Option ItemFault
 item_lack defined (Variable word.Mon name of init) = None
 item_lack defined (Variable word.Con name of init) = option_or (lack defined section.Req name) (lack defined section.Out name)
 item_lack defined (Variable word.Input name of init) = lack defined section.In name
@@ -57,7 +57,7 @@ item_lack defined (Variable word.SofVar name of init) = lack defined section.Sof
 item_lack defined _ = None
 
 -- the first declared variable that lacks a table
-abbrev pub first_lack : List Item → Option TypeFault
+abbrev pub first_lack : List Item → Option ItemFault
 first_lack items = first_of (item_lack (targets items)) items
 
 -- each target with those before it
@@ -66,13 +66,13 @@ in_turn before [] = []
 in_turn before (target ∷ more) = (before, target) ∷ in_turn (before ++ target ∷ []) more
 
 -- a target that stands before
-abbrev pub twice : List Target × Target → Option TypeFault
+abbrev pub twice : List Target × Target → Option ItemFault
 twice (before, (s, name)) = if is_defined before s name.text then Some (TwoTables (section_of s) name.text name.place) else None
 
 -- the first name that is defined a second time in a section
-abbrev pub first_twice : List Target → Option TypeFault
+abbrev pub first_twice : List Target → Option ItemFault
 first_twice defined = first_of twice (in_turn [] defined)
 
 -- a variable that lacks a table, or else a name with two in a section
-abbrev pub first_table_fault : List Item → Option TypeFault
+abbrev pub first_table_fault : List Item → Option ItemFault
 first_table_fault items = option_or (first_lack items) (first_twice (targets items))

@@ -1,0 +1,3 @@
+-- What the steps of the code answer, for their private contracts.
+pub mod Answers
+pub mod Faults
