@@ -13,8 +13,8 @@ use Rattle.ft_names.specs.declared.site.Site.{Site}
 use Rattle.ft_names.specs.meaning.Cards.{Env}
 use Rattle.ft_names.specs.meaning.Parts.{first_part, operands}
 use Rattle.ft_names.specs.laws.Parts.{first-Num, first-Name, first-Truth, first-Prev, first-Age, first-Not, first-Neg, first-Two}
-use Rattle.ft_types.specs.declared.fault.TypeFault.{TypeFault}
-use Rattle.ft_types.specs.declared.fault.TypeFault.TheVariants.{TypeMismatch}
+use Rattle.ft_types.specs.declared.fault.ItemFault.{ItemFault}
+use Rattle.ft_types.specs.declared.fault.ItemFault.TheVariants.{TypeMismatch}
 use Rattle.ft_types.specs.meaning.Kinds.{is_met}
 use Rattle.ft_types.specs.meaning.Mismatch.{is_wrong, kind_of, mismatch, place_of}
 use Rattle.ft_types.specs.meaning.Sides.{wrong_side}
@@ -85,14 +85,14 @@ part-right test asked o left right place h =
 module _ (env : Env) (site : Site) where
   clean-not : (asked : Asked) (of : Expr) (place : Place) → IsClean env site asked (Not of place) → IsClean env site Condition of
   clean-not asked of place h = record {
-    sides = part-not {Y = TypeFault} (λ _. wrong_side env site) asked of place h.sides;
+    sides = part-not {Y = ItemFault} (λ _. wrong_side env site) asked of place h.sides;
     kinds = part-not (mismatch env) asked of place h.kinds;
     slopes = part-not {Y = Slope} (λ _. slope env) asked of place h.slopes;
   }
 
   clean-neg : (asked : Asked) (of : Expr) (place : Place) → IsClean env site asked (Neg of place) → IsClean env site (Term Number) of
   clean-neg asked of place h = record {
-    sides = part-neg {Y = TypeFault} (λ _. wrong_side env site) asked of place h.sides;
+    sides = part-neg {Y = ItemFault} (λ _. wrong_side env site) asked of place h.sides;
     kinds = part-neg (mismatch env) asked of place h.kinds;
     slopes = part-neg {Y = Slope} (λ _. slope env) asked of place h.slopes;
   }
@@ -100,7 +100,7 @@ module _ (env : Env) (site : Site) where
   clean-left : (asked : Asked) (o : Op) (left right : Expr) (place : Place) → IsClean env site asked (Two o left right place)
       → IsClean env site (operands o) left
   clean-left asked o left right place h = record {
-    sides = part-left {Y = TypeFault} (λ _. wrong_side env site) asked o left right place h.sides;
+    sides = part-left {Y = ItemFault} (λ _. wrong_side env site) asked o left right place h.sides;
     kinds = part-left (mismatch env) asked o left right place h.kinds;
     slopes = part-left {Y = Slope} (λ _. slope env) asked o left right place h.slopes;
   }
@@ -108,7 +108,7 @@ module _ (env : Env) (site : Site) where
   clean-right : (asked : Asked) (o : Op) (left right : Expr) (place : Place) → IsClean env site asked (Two o left right place)
       → IsClean env site (operands o) right
   clean-right asked o left right place h = record {
-    sides = part-right {Y = TypeFault} (λ _. wrong_side env site) asked o left right place h.sides;
+    sides = part-right {Y = ItemFault} (λ _. wrong_side env site) asked o left right place h.sides;
     kinds = part-right (mismatch env) asked o left right place h.kinds;
     slopes = part-right {Y = Slope} (λ _. slope env) asked o left right place h.slopes;
   }
@@ -156,7 +156,7 @@ module _ (env : Env) (site : Site) where
       (or_parts (is_wrong env e) (not (is_met asked (kind_of env e))) (mismatch-none asked e (own-part (mismatch env) e asked h.kinds))).0
 
   pub is-on-side : (asked : Asked) (e : Expr) → IsClean env site asked e → wrong_side env site e ≡ None
-  is-on-side asked e h = own-part {Y = TypeFault} (λ _. wrong_side env site) e asked h.sides
+  is-on-side asked e h = own-part {Y = ItemFault} (λ _. wrong_side env site) e asked h.sides
 
   pub is-linear : (asked : Asked) (e : Expr) → IsClean env site asked e → slope env e ≡ None
   is-linear asked e h = own-part {Y = Slope} (λ _. slope env) e asked h.slopes

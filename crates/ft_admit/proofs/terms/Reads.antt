@@ -40,7 +40,7 @@ use Rattle.ft_names.specs.declared.site.Site.{Site}
 use Rattle.ft_names.specs.declared.site.Site.TheVariants as site
 use Rattle.ft_names.specs.meaning.Cards.{Env}
 use Rattle.ft_names.specs.laws.Parts.{out-Name, out-Prev, out-Age}
-use Rattle.ft_types.specs.declared.fault.TypeFault.TheVariants.{WrongSide}
+use Rattle.ft_types.specs.declared.fault.ItemFault.TheVariants.{WrongSide}
 use Rattle.ft_types.specs.meaning.Mismatch.{is_timer, is_wrong, layer_wrong}
 use Rattle.ft_types.specs.meaning.Sides.{has_age, has_prev, is_designed, is_monitored, is_output, is_required, layer_wrong_side, may_read}
 use Rattle.ft_types.specs.meaning.Sides.{reads, remembers, same_section_word, wrong_history, wrong_name, wrong_side}
