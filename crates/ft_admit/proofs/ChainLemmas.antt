@@ -1,12 +1,12 @@
 -- The kinds of faults before circles, one after another.
-use Rattle.std.proofs.Common.{◌≡◌, ◌∙◌, sym, ap, subst, refl, ◌⊎◌, inl, inr, Option, Some, None, option_map}
-use Rattle.std.specs.Prelude.{Result, Ok, Err}
+use Rattle.std.proofs.Common.{◌≡◌, ◌∙◌, sym, ap, subst, refl, inl, inr, Option, Some, None, option_map}
+use Rattle.std.specs.Prelude.{Result, Err}
 use Rattle.std.specs.Option.{option_or}
 use Rattle.ft_tree.specs.declared.tree.Tree.{Tree}
 use Rattle.ft_names.specs.declared.fault.NameFault.{NameFault}
 use Rattle.ft_names.specs.declared.stop.Stop.{Stop}
 use Rattle.ft_names.specs.declared.stop.Stop.TheVariants as stop
-use Rattle.ft_names.specs.laws.First.{option_or_assoc, option_or-None}
+use Rattle.ft_names.specs.laws.First.{option_or_assoc}
 use Rattle.ft_names.specs.meaning.First.{Answers, first_of}
 use Rattle.ft_names.specs.meaning.NameFaults.{AnswersNames, name_fault}
 use Rattle.ft_types.specs.declared.fault.ItemFault.{ItemFault}
@@ -96,20 +96,24 @@ places-stop tree fault names found = subst (Fails fault) (whole tree)
 pub numbers-stop : (tree : Tree) (fault : TypeFault) → name_fault tree.items ≡ None → place_fault tree ≡ None
     → Fails fault (number_fault tree) → Fails fault (fault_before_circles tree)
 numbers-stop tree fault names places found = subst (Fails fault) (whole tree)
-    (passes {A = Unit {0}} (Err fault) (names_of tree) _ (no-names tree names) (passes {A = Unit {0}} (Err fault) (place_fault tree) _ places
+    (passes {A = Unit {0}} (Err fault) (names_of tree) _ (no-names tree names)
+    (passes {A = Unit {0}} (Err fault) (place_fault tree) _ places
     (stops fault (number_fault tree) _ found)))
 
 pub grids-stop : (tree : Tree) (fault : TypeFault) → name_fault tree.items ≡ None → place_fault tree ≡ None
     → number_fault tree ≡ None → Fails fault (grid_fault tree) → Fails fault (fault_before_circles tree)
 grids-stop tree fault names places numbers found = subst (Fails fault) (whole tree)
-    (passes {A = Unit {0}} (Err fault) (names_of tree) _ (no-names tree names) (passes {A = Unit {0}} (Err fault) (place_fault tree) _ places
+    (passes {A = Unit {0}} (Err fault) (names_of tree) _ (no-names tree names)
+    (passes {A = Unit {0}} (Err fault) (place_fault tree) _ places
     (passes {A = Unit {0}} (Err fault) (number_fault tree) _ numbers found)))
 
 pub none-stops : (tree : Tree) → name_fault tree.items ≡ None → place_fault tree ≡ None → number_fault tree ≡ None
     → grid_fault tree ≡ None → fault_before_circles tree ≡ None
 none-stops tree names places numbers grids =
-    sym (whole tree) ∙ ap (λ o. option_or o (option_or (place_fault tree) (option_or (number_fault tree) (grid_fault tree)))) (no-names tree names)
-    ∙ ap (λ o. option_or o (option_or (number_fault tree) (grid_fault tree))) places ∙ ap (λ o. option_or o (grid_fault tree)) numbers ∙ grids
+    sym (whole tree) ∙ ap (λ o. option_or o (option_or (place_fault tree) (option_or (number_fault tree) (grid_fault tree))))
+    (no-names tree names)
+    ∙ ap (λ o. option_or o (option_or (number_fault tree) (grid_fault tree))) places
+    ∙ ap (λ o. option_or o (grid_fault tree)) numbers ∙ grids
 
 -- the other way round: no kind occurs
 pub or-none : {Y : Type 0} (a b : Option Y) → option_or a b ≡ None → (a ≡ None) × (b ≡ None)

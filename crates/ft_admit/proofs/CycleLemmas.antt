@@ -1,12 +1,12 @@
 -- What an order or a circle of numbers says of the variables and memories of a tree.
-use Rattle.std.proofs.Common.{arith, ◌≡◌, ◌∙◌, sym, ap, subst, refl, inl, inr, ℕ, zero, suc, ◌+◌, ◌-◌, ◌≤◌, ◌<◌, List, [], ◌∷◌, length, map, slice_get}
-use Rattle.std.proofs.Common.{Some, Option, nat_lt, true}
+use Rattle.std.proofs.Common.{arith, ◌≡◌, ◌∙◌, sym, ap, subst, inl, inr, ℕ, zero, suc, ◌+◌, ◌-◌, ◌≤◌, ◌<◌, List, [], ◌∷◌, length, map}
+use Rattle.std.proofs.Common.{slice_get}
+use Rattle.std.proofs.Common.{Some, nat_lt, true}
 use Rattle.std.specs.Prelude.{Contains, slice_index_or}
 use Rattle.std.proofs.Math.Logic.{∥∥₁_elim}
 use Rattle.std.proofs.Props.{props}
 use Rattle.std.proofs.lemmas.Bool.{cases_Bool, ltb-true, ltb-false}
 use Rattle.std.proofs.lemmas.Option.{slice_get_within}
-use Rattle.ft_tree.specs.declared.item.Item.{Item}
 use Rattle.ft_tree.specs.declared.tree.Tree.{Tree}
 use Rattle.ft_core.specs.laws.Places.{some-at, place-of}
 use Rattle.ft_core.specs.declared.ordering.OrderFault.{OrderFault}
@@ -17,7 +17,6 @@ use Rattle.ft_core.specs.declared.tables.Var.{Var}
 use Rattle.ft_core.specs.meaning.Items.{AreReads, IsNumbering, ReadsWhatIsThere}
 use Rattle.ft_core.specs.meaning.Kinds.{is_of, monitored}
 use Rattle.ft_core.specs.meaning.Order.{IsCause, IsCircle, IsFirstCircle, ReadsItem}
-use Rattle.ft_core.specs.checked.Checked.{HasSome}
 use Rattle.ft_names.specs.meaning.Cards.{env_of}
 use Rattle.ft_build.specs.declared.parts.Parts.{Parts}
 use Rattle.ft_build.specs.meaning.Variables.{no_places}

@@ -1,5 +1,5 @@
 -- The first fault of a tree, by the stage that finds it.
-use Rattle.std.proofs.Common.{◌≡◌, ◌∙◌, sym, ap, refl, ◌⊎◌, inl, inr, Option, Some, None}
+use Rattle.std.proofs.Common.{◌≡◌, refl, inl, inr, Option, Some, None}
 use Rattle.std.specs.Prelude.{Err}
 use Rattle.ft_tree.specs.declared.tree.Tree.{Tree}
 use Rattle.ft_names.specs.declared.stop.Stop.{Stop}

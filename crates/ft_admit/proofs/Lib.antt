@@ -1,3 +1,4 @@
+pub mod AdmitLemmas
 pub mod ChainLemmas
 pub mod CycleLemmas
 pub mod FirstFaultLemmas

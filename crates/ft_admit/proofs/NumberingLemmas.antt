@@ -1,5 +1,5 @@
 -- Variables and memories that are numbered together, in order of declaration, take each number once.
-use Rattle.std.proofs.Common.{arith, ◌≡◌, ◌∙◌, sym, ap, subst, refl, ◌⊎◌, inl, inr, ℕ, zero, suc, ◌+◌, ◌≤◌, ◌<◌, List, [], ◌∷◌, ◌++◌, length}
+use Rattle.std.proofs.Common.{arith, ◌≡◌, ◌∙◌, sym, ap, refl, ◌⊎◌, inl, inr, ℕ, zero, suc, ◌+◌, ◌≤◌, ◌<◌, List, [], ◌∷◌, ◌++◌, length}
 use Rattle.std.proofs.Common.{slice_get, Some, nat_lt, append_assoc, append-nil, Bool, drop, if◌then◌else◌}
 use Rattle.std.specs.Prelude.{slice_index_or}
 use Rattle.std.proofs.lemmas.List.{drop_all}
@@ -14,8 +14,8 @@ use Rattle.ft_core.specs.meaning.Items.{IsNumbering}
 use Rattle.ft_names.specs.meaning.Cards.{Env, declares_memory, declares_variable}
 use Rattle.ft_build.specs.declared.places.Places.{Places}
 use Rattle.ft_build.specs.meaning.Tables.{build_memory}
-use Rattle.ft_build.specs.meaning.Variables.{build_var, counted, vars_from}
-use Rattle.ft_admit.specs.meaning.Cycles.{declares_item, item_name, number_after, number_if, numbering, numbers_from, scan_names}
+use Rattle.ft_build.specs.meaning.Variables.{counted, vars_from}
+use Rattle.ft_admit.specs.meaning.Cycles.{declares_item, number_after, number_if, numbering, numbers_from, scan_names}
 
 -- a place of a list once a number is put in at place m
 abbrev shifted : ℕ → ℕ → ℕ

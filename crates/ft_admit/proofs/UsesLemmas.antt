@@ -1,7 +1,7 @@
 -- Where each name after `uses` is that of an invariant, a block of the set uses invariants of the set, none twice.
-use Rattle.std.proofs.Common.{arith, ◌≡◌, ◌∙◌, sym, ap, subst, refl, ◌⊎◌, inl, inr, ⊎_elim, ℕ, zero, suc, ◌+◌, ◌<◌, Bool, true, false, List, []}
-use Rattle.std.proofs.Common.{◌∷◌, ◌++◌, length, map, take, count_by, slice_get, Option, Some, None, option_map, bytes_eq, IsTrue, append-nil, cond, zero-add}
-use Rattle.std.specs.List.{Contains, enumerate_from, find, flat_map}
+use Rattle.std.proofs.Common.{arith, ◌≡◌, ◌∙◌, sym, ap, subst, refl, ◌⊎◌, inl, inr, ⊎_elim, ℕ, zero, suc, ◌+◌, true, false, List, []}
+use Rattle.std.proofs.Common.{◌∷◌, ◌++◌, map, take, slice_get, Option, Some, None, option_map, bytes_eq, IsTrue, append-nil, cond, zero-add}
+use Rattle.std.specs.List.{Contains, enumerate_from, flat_map}
 use Rattle.std.specs.Option.{option_or}
 use Rattle.std.proofs.lemmas.Bool.{cases_Bool, true≢false}
 use Rattle.std.proofs.lemmas.List.Elements.{Contains-append_cases}
@@ -29,7 +29,8 @@ use Rattle.ft_names.specs.declared.stop.Stop.{Stop}
 use Rattle.ft_names.specs.declared.walk.Role.TheVariants.{Taken, Used}
 use Rattle.ft_names.specs.laws.First.{first_of-append, first_of-flat_map, first_of-map}
 use Rattle.ft_names.specs.laws.Names.{NamesDiffer}
-use Rattle.ft_names.specs.meaning.Cards.{Env, cards_from, cards_of, count_before, declares_block, env_of, fact_cards, item_cards, member_card, under}
+use Rattle.ft_names.specs.meaning.Cards.{Env, cards_from, cards_of, count_before, declares_block, env_of, fact_cards, item_cards}
+use Rattle.ft_names.specs.meaning.Cards.{member_card, under}
 use Rattle.ft_names.specs.meaning.Declared.{entries, fact_words, item_words, listing, names_in}
 use Rattle.ft_names.specs.meaning.Duplicates.{item_namings, namings, repeated, set_namings, texts}
 use Rattle.ft_names.specs.meaning.First.{Answers, first_of}
@@ -37,7 +38,6 @@ use Rattle.ft_names.specs.meaning.NameFaults.{duplicate, name_fault, no_variable
 use Rattle.ft_names.specs.meaning.Spots.{Spot, fact_spots, item_spots, named, spots}
 use Rattle.ft_build.specs.meaning.Blocks.{block_of, build_block, card_use, fact_of, use_of}
 use Rattle.ft_build.specs.meaning.Conditions.{cond_of}
-use Rattle.ft_admit.specs.declared.fault.TypeFault.{TypeFault}
 use Rattle.ft_admit.specs.meaning.Uses.{first_unknown_invariant, is_invariant, use_fault, use_spot}
 use Rattle.ft_admit.specs.stages.Uses.{HaveLawfulUses}
 use Rattle.ft_admit.proofs.ChainLemmas.{or-none}

@@ -11,32 +11,65 @@ use ft_parse::{LimitWord, ParseFault};
 #[derive(Drop)]
 pub enum SetFault {
     /// The tokens before the place begin some set's text, and with the token at the place, or the end, they don't.
-    Syntax { place: Place },
+    Syntax {
+        place: Place,
+    },
     /// A token passes this limit.
-    Limit { which: LimitWord, place: Place },
+    Limit {
+        which: LimitWord,
+        place: Place,
+    },
     /// The set has no monitored variable, or else no controlled one.
-    NoVariable { kind: VarKind },
+    NoVariable {
+        kind: VarKind,
+    },
     /// A name is declared a second time, or stands twice after one `takes` or `uses`.
-    DuplicateName { name: Text, place: Place },
+    DuplicateName {
+        name: Text,
+        place: Place,
+    },
     /// A name that nothing declares is used, other than after `uses`.
-    UnknownName { name: Text, place: Place },
+    UnknownName {
+        name: Text,
+        place: Place,
+    },
     /// A variable, a memory, `prev` or `age` stands where it may not be read, a table defines a variable of another section,
     /// or `takes` names a monitored or input variable.
-    WrongSide { name: Text, place: Place },
+    WrongSide {
+        name: Text,
+        place: Place,
+    },
     /// An expression or a name is of the wrong kind.
-    TypeMismatch { place: Place },
+    TypeMismatch {
+        place: Place,
+    },
     /// A term isn't linear, or too large.
-    NotLinear { why: Why, place: Place },
+    NotLinear {
+        why: Why,
+        place: Place,
+    },
     /// A lower bound is above the upper one, or a number is out of its range.
-    BadRange { place: Place },
+    BadRange {
+        place: Place,
+    },
     /// A hold is out of its range.
-    BadHold { place: Place },
+    BadHold {
+        place: Place,
+    },
     /// The lower bound of a band isn't below the upper one.
-    BadBand { place: Place },
+    BadBand {
+        place: Place,
+    },
     /// A row has not as many entries as the header.
-    Shape { title: Text, place: Place },
+    Shape {
+        title: Text,
+        place: Place,
+    },
     /// A variable lacks a table in a section.
-    NoTable { section: Section, name: Text },
+    NoTable {
+        section: Section,
+        name: Text,
+    },
     /// A variable is defined twice in a section.
     TwoTables {
         section: Section,
@@ -44,15 +77,26 @@ pub enum SetFault {
         place: Place,
     },
     /// These variables and memories read each other in a circle within one scan. The first is the first declared that lies on one.
-    Cycle { names: List<Text> },
+    Cycle {
+        names: List<Text>,
+    },
     /// What `uses` names is no invariant.
-    UnknownInvariant { name: Text, place: Place },
+    UnknownInvariant {
+        name: Text,
+        place: Place,
+    },
     /// These blocks use each other in a circle. The first is the first declared that lies on one.
-    BlockCycle { names: List<Text> },
+    BlockCycle {
+        names: List<Text>,
+    },
     /// No block has this controlled variable as a goal. It is the first declared of which that is so.
-    GoalMissing { name: Text },
+    GoalMissing {
+        name: Text,
+    },
     /// A goal stands twice: the variable of the first goal in the text that an earlier one has too.
-    ShownTwice { name: Text },
+    ShownTwice {
+        name: Text,
+    },
     /// Memory was refused.
     NoMemory,
 }

@@ -1,7 +1,6 @@
 -- The first fault of blocks, by the step that finds it.
-use Rattle.std.proofs.Common.{arith, ◌≡◌, ◌∙◌, sym, ap, subst, refl, ℕ, ◌+◌, ◌≤◌, ◌<◌, List, [], length, take, slice_get, Some}
+use Rattle.std.proofs.Common.{arith, ◌≡◌, sym, subst, refl, ℕ, List, length, take, slice_get, Some}
 use Rattle.std.specs.Prelude.{slice_index_or}
-use Rattle.std.specs.List.{Contains}
 use Rattle.std.proofs.lemmas.Option.{slice_get-get_or, slice_get_within}
 use Rattle.std.proofs.lemmas.List.{length-take-le, take-append-drop}
 use Rattle.ft_core.specs.meaning.Kinds.{controlled}
@@ -89,7 +88,8 @@ no-twice vars goals name once found =
     let front = from-front goals found.at place.0 found.place place.1 in
     let same = once place.0 found.at found.place front found.here in
     let low = slice_get_within (take found.at goals) place.0 found.place place.1 in
-    let short = length-take-le found.at goals (let within = slice_get_within goals found.at found.place found.here in omega (arith, within)) in
+    let within = slice_get_within goals found.at found.place found.here in
+    let short = length-take-le found.at goals (omega (arith, within)) in
     omega (arith, same, low, short)
 
 -- where there is no fault, only want of memory is in the way

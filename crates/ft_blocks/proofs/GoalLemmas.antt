@@ -1,6 +1,6 @@
 -- The goals of blocks in one list, and where each stands.
-use Rattle.std.proofs.Common.{arith, ◌≡◌, ◌∙◌, sym, ap, subst, refl, ◌⊎◌, inl, inr, ⊎_elim, ℕ, zero, suc, ◌+◌, ◌≤◌, ◌<◌, List, [], ◌∷◌, ◌++◌}
-use Rattle.std.proofs.Common.{length, take, slice_get, Some, IsTrue, true, true≢false, append_assoc}
+use Rattle.std.proofs.Common.{arith, ◌≡◌, ◌∙◌, sym, ap, subst, refl, ◌⊎◌, inl, inr, ℕ, zero, suc, ◌+◌, ◌≤◌, ◌<◌, List, [], ◌∷◌, ◌++◌}
+use Rattle.std.proofs.Common.{length, take, slice_get, Some, true, true≢false}
 use Rattle.std.specs.List.{Contains, flat_map}
 use Rattle.std.specs.Prelude.{slice_index_or}
 use Rattle.std.proofs.lemmas.List.{take_all, take_more}
@@ -63,9 +63,11 @@ one-part : {A X : Type 0} (f : A → List X) (xs : List A) → AreDistinct (flat
 one-part f [] once i j a b x at_a at_b in_a in_b = absurd (none-some a at_a)
 one-part f (y ∷ ys) once zero zero a b x at_a at_b in_a in_b = refl
 one-part f (y ∷ ys) once zero (suc j) a b x at_a at_b in_a in_b =
-    absurd (apart (f y) (flat_map f ys) x once (subst (λ c. Contains (f c) x) (sym (same_Some y a at_a)) in_a) (in_all f ys j b x at_b in_b))
+    absurd (apart (f y) (flat_map f ys) x once (subst (λ c. Contains (f c) x) (sym (same_Some y a at_a)) in_a)
+    (in_all f ys j b x at_b in_b))
 one-part f (y ∷ ys) once (suc i) zero a b x at_a at_b in_a in_b =
-    absurd (apart (f y) (flat_map f ys) x once (subst (λ c. Contains (f c) x) (sym (same_Some y b at_b)) in_b) (in_all f ys i a x at_a in_a))
+    absurd (apart (f y) (flat_map f ys) x once (subst (λ c. Contains (f c) x) (sym (same_Some y b at_b)) in_b)
+    (in_all f ys i a x at_a in_a))
 one-part f (y ∷ ys) once (suc i) (suc j) a b x at_a at_b in_a in_b =
     ap suc (one-part f ys (right-once (f y) (flat_map f ys) once) i j a b x at_a at_b in_a in_b)
 

@@ -8,7 +8,8 @@ use Rattle.ft_admit.proofs.cycles.judge_cycles.Goals as goal
 pub order-requires-clause-count : goal.order-requires-clause-count
 order-requires-clause-count c =
     let long = c.in_ok-reads.ensures.reads.long in
-    let few = few-items c.args.parts.now (form-of c.lawful_form.ensures c.args.tree.now c.args.parts.now c.requires.set c.requires.before) in
+    let few = few-items c.args.parts.now
+    (form-of c.lawful_form.ensures c.args.tree.now c.args.parts.now c.requires.set c.requires.before) in
     omega (arith, long, few)
 
 pub returns-in-Ok-clause-order : goal.returns-in-Ok-clause-order

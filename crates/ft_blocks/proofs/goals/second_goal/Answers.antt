@@ -1,4 +1,3 @@
-use Rattle.std.proofs.Common.{arith}
 use Rattle.ft_blocks.proofs.GoalLemmas.{all-once, take-once}
 use Rattle.ft_blocks.proofs.goals.second_goal.Goals as goal
 

@@ -1,4 +1,4 @@
-use Rattle.std.proofs.Common.{◌≡◌, ◌∙◌, ◌≤◌, sym, ap, subst, length, List, ℕ, refl}
+use Rattle.std.proofs.Common.{◌∙◌, ◌≤◌, sym, ap, subst, length, List, ℕ, refl}
 use Rattle.ft_core.specs.declared.ordering.OrderFault.{OrderFault}
 use Rattle.ft_core.specs.meaning.Order.{AreItems, IsCause}
 use Rattle.ft_blocks.specs.meaning.Cycles.{block_reads}
