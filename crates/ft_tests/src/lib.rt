@@ -18,4 +18,6 @@ mod printing;
 #[cfg(test)]
 mod running;
 #[cfg(test)]
+mod searches;
+#[cfg(test)]
 mod solutions;
