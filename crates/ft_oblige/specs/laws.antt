@@ -1,4 +1,5 @@
 -- Laws of the parts of block formulas and of their names, and what the proofs need of the crates below.
+pub mod ListPartLaws
 pub mod Marked
 pub mod NumberLaws
 pub mod OwnSections
