@@ -1,8 +1,7 @@
 -- The parts of the formulas of lists against what numbers meet.
-use Rattle.std.proofs.Common.{◌≡◌, ◌∙◌, sym, ap, subst, refl, ℕ, zero, suc, ◌+◌, ◌-◌, ◌<◌, ℤ, Bool, true, false, not, List, ◌∷◌, ◌++◌}
+use Rattle.std.proofs.Common.{◌≡◌, ◌∙◌, sym, ap, refl, ℕ, ◌-◌, ◌<◌, ℤ, Bool, true, false, not, ◌++◌}
 use Rattle.std.proofs.Common.{map, length, Option, None, Some, slice_get, arith, true≢false}
-use Rattle.std.specs.Prelude.{IsTrue}
-use Rattle.std.specs.List.{list_all, list_any, range_with_len}
+use Rattle.std.specs.List.{list_all, range_with_len}
 use Rattle.std.proofs.lemmas.Bool.{and_parts, and_from}
 use Rattle.std.proofs.lemmas.List.Folds.{list_all-append, list_all-map}
 use Rattle.std.proofs.lemmas.Option.{slice_get_within}

@@ -1,8 +1,6 @@
 -- The points of the formulas of lists, and the lists that have their values.
-use Rattle.std.proofs.Common.{◌≡◌, ◌∙◌, sym, ap, subst, refl, ℕ, zero, suc, ◌+◌, ◌-◌, ◌*◌, ◌<◌, ◌≤◌, ℤ, Bool, true, false, cond, List, []}
-use Rattle.std.proofs.Common.{◌∷◌, map, length, Some, slice_get, slice_index_or, arith, ⊎_elim}
-use Rattle.std.specs.Prelude.{IsTrue}
-use Rattle.std.specs.List.{list_all}
+use Rattle.std.proofs.Common.{◌≡◌, ◌∙◌, sym, ap, subst, ℕ, suc, ◌+◌, ◌-◌, ◌*◌, ◌<◌, ℤ, Bool, true, false, cond, List, []}
+use Rattle.std.proofs.Common.{length, slice_index_or, arith, ⊎_elim}
 use Rattle.std.proofs.lemmas.Bool.{cases_Bool, cond-true, cond-false}
 use Rattle.std.proofs.lemmas.Nat.{mul-le}
 use Rattle.std.proofs.lemmas.Option.{slice_get_within}
@@ -12,22 +10,20 @@ use Rattle.ft_core.specs.declared.tables.Tables.{Tables}
 use Rattle.ft_core.specs.declared.tables.Var.{Var}
 use Rattle.ft_core.specs.declared.tables.Section.TheVariants as section
 use Rattle.ft_core.specs.meaning.Kinds.{monitored}
-use Rattle.ft_linear.specs.meaning.Form.{InArea, values_at}
+use Rattle.ft_linear.specs.meaning.Form.{InArea}
 use Rattle.ft_mean.specs.laws.Whole.{joint, WholeSplits}
-use Rattle.ft_mean.specs.meaning.Allowed.{IsMonitored, Allowed}
-use Rattle.ft_mean.specs.meaning.Proper.{AllProper}
+use Rattle.ft_mean.specs.meaning.Allowed.{IsMonitored}
 use Rattle.ft_mean.specs.meaning.Reading.{Reading, Scans, IsVar, reading_of}
 use Rattle.ft_mean.specs.meaning.Refines.{FirstDiffers}
 use Rattle.ft_claims.specs.declared.claim.Claim.{Claim}
 use Rattle.ft_claims.specs.laws.FormulaLaws.{Gives}
-use Rattle.ft_claims.specs.meaning.Areas.{is_used, used, place_in, finished}
-use Rattle.ft_claims.specs.meaning.Claims.{claim_true}
+use Rattle.ft_claims.specs.meaning.Areas.{is_used, finished}
 use Rattle.ft_claims.specs.meaning.Names.{width}
 use Rattle.ft_claims.specs.meaning.Points.{IsPointOf}
-use Rattle.ft_oblige.specs.meaning.Lists.{list_spans, list_parts, difference_parts, list_obliged, difference_obliged}
+use Rattle.ft_oblige.specs.meaning.Lists.{list_spans, list_parts, difference_parts}
 use Rattle.ft_unroll.specs.laws.Laws.{Laws}
-use Rattle.ft_unroll.specs.laws.ListLaws.{HasPoint, PointsHaveLists, PointsAllow, ListsAreAllowed, PointsDiffer, DifferencesHavePoints}
-use Rattle.ft_unroll.specs.meaning.Unrolling.{reading_by, MeetsScans, MeetsDifference, list_state, HasValues}
+use Rattle.ft_unroll.specs.laws.ListLaws.{PointsHaveLists, PointsAllow, ListsAreAllowed, PointsDiffer, DifferencesHavePoints}
+use Rattle.ft_unroll.specs.meaning.Unrolling.{reading_by, MeetsScans, list_state, HasValues}
 use Rattle.ft_unroll.proofs.PartLemmas.{nat_from, nat_into, difference_from, difference_into}
 use Rattle.ft_unroll.proofs.RollLemmas.{roll_now, roll_spans, nat_met, differs_meets}
 use Rattle.ft_unroll.proofs.ScanLists.{same_list}

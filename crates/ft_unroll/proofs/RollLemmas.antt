@@ -1,7 +1,7 @@
 -- A whole reading gives numbers that meet the formulas of a list.
-use Rattle.std.proofs.Common.{◌≡◌, ◌∙◌, sym, ap, subst, refl, ℕ, zero, suc, ◌+◌, ◌-◌, ◌*◌, ◌/◌, ◌<◌, ℤ, pos, Bool, true, false, cond, ◌||◌, List}
-use Rattle.std.proofs.Common.{◌++◌, map, length, Some, slice_get, arith, true≢false}
-use Rattle.std.specs.Prelude.{nat_lt, IsTrue}
+use Rattle.std.proofs.Common.{◌≡◌, ◌∙◌, sym, ap, subst, refl, ℕ, suc, ◌+◌, ◌-◌, ◌*◌, ◌/◌, ◌<◌, ℤ, pos, Bool, true, false, cond, ◌||◌, List}
+use Rattle.std.proofs.Common.{◌++◌, length, Some, slice_get, arith}
+use Rattle.std.specs.Prelude.{nat_lt}
 use Rattle.std.specs.Ordering.{int_eq}
 use Rattle.std.specs.List.{list_all, Contains}
 use Rattle.std.proofs.lemmas.Bool.{and_parts, cond-true, cond-false, lt-ltb, le-ltb}
@@ -27,7 +27,7 @@ use Rattle.ft_mean.specs.meaning.Allowed.{nat_at}
 use Rattle.ft_mean.specs.meaning.Cells.{defined}
 use Rattle.ft_mean.specs.meaning.Memory.{kept, look}
 use Rattle.ft_mean.specs.meaning.Proper.{AllProper}
-use Rattle.ft_mean.specs.meaning.Reading.{Reading, Scans, begins, before, elapsed, init_of, scan_before, IsVar}
+use Rattle.ft_mean.specs.meaning.Reading.{Reading, Scans, begins, elapsed, init_of, scan_before}
 use Rattle.ft_mean.specs.meaning.Refines.{FirstDiffers}
 use Rattle.ft_mean.specs.meaning.Value.{View, truth}
 use Rattle.ft_claims.specs.laws.GoodLaws.{IsThere}
@@ -39,7 +39,7 @@ use Rattle.ft_oblige.specs.laws.ReadsThere.{there, now_there, step_there, side_t
 use Rattle.ft_oblige.specs.laws.Tests.{every_image, at_place, both_lists}
 use Rattle.ft_oblige.specs.meaning.Lists.{is_first, list_frame, clauses_at, nat_claims}
 use Rattle.ft_unroll.specs.laws.Laws.{Laws}
-use Rattle.ft_unroll.specs.meaning.Unrolling.{MeetsSection, MeetsScans, MeetsDifference, list_state}
+use Rattle.ft_unroll.specs.meaning.Unrolling.{MeetsScans, MeetsDifference, list_state}
 use Rattle.ft_unroll.proofs.FrameLemmas.{first_begins, defined_alike}
 
 -- the scan of a number, and its place in it

@@ -1,5 +1,5 @@
 -- Shorter lists, and when no short list shows a difference.
-use Rattle.std.proofs.Common.{◌≡◌, sym, subst, refl, ℕ, zero, suc, ◌-◌, ◌<◌, ◌≤◌, length, arith}
+use Rattle.std.proofs.Common.{◌≡◌, subst, suc, ◌-◌, arith}
 use Rattle.std.specs.Prelude.{take}
 use Rattle.std.proofs.lemmas.List.{length-take-le}
 use Rattle.ft_mean.specs.meaning.Refines.{FirstDiffers}

@@ -1,24 +1,22 @@
 -- Numbers that meet the formulas of a list are a whole reading, and those of the memories are the ones that they keep.
-use Rattle.std.proofs.Common.{◌≡◌, ◌∙◌, sym, ap, subst, refl, ℕ, zero, suc, ◌+◌, ◌*◌, ◌<◌, ℤ, pos, Bool, true, false, cond, List, [], ◌∷◌, ◌++◌}
-use Rattle.std.proofs.Common.{map, length, Some, slice_get, arith, true≢false}
-use Rattle.std.specs.Prelude.{IsTrue}
+use Rattle.std.proofs.Common.{◌≡◌, ◌∙◌, sym, ap, subst, refl, ℕ, zero, suc, ◌*◌, ◌<◌, ℤ, pos, Bool, true, false, cond, List, [], ◌∷◌, ◌++◌}
+use Rattle.std.proofs.Common.{length, Some, slice_get, arith, true≢false}
 use Rattle.std.specs.Ordering.{int_eq}
 use Rattle.std.specs.List.{list_all, Contains}
-use Rattle.std.proofs.lemmas.Bool.{and_parts, and_from, ltb-true}
+use Rattle.std.proofs.lemmas.Bool.{and_parts, and_from}
 use Rattle.std.proofs.lemmas.List.Folds.{list_all-append, list_all-map}
 use Rattle.std.proofs.Math.Logic.{∥∥₁_elim}
 use Rattle.std.proofs.Props.{props}
 use Rattle.ft_base.specs.Interval.{IsWithin}
 use Rattle.ft_core.specs.declared.tables.Tables.{Tables}
-use Rattle.ft_core.specs.declared.tables.Var.{Var}
 use Rattle.ft_core.specs.declared.tables.Memory as tables
 use Rattle.ft_core.specs.declared.tables.Memory.TheVariants.{Held, Hyst}
 use Rattle.ft_core.specs.declared.tables.Section.{Section}
 use Rattle.ft_core.specs.declared.tables.Section.TheVariants as section
 use Rattle.ft_core.specs.declared.term.Cond.{Cond}
-use Rattle.ft_core.specs.checked.Sound.{on_side, side_of, HasOrder}
+use Rattle.ft_core.specs.checked.Sound.{side_of, HasOrder}
 use Rattle.ft_core.specs.laws.Places.{some-at}
-use Rattle.ft_core.specs.meaning.Kinds.{monitored, controlled, defined_kinds}
+use Rattle.ft_core.specs.meaning.Kinds.{monitored}
 use Rattle.ft_core.specs.meaning.Reads.{Read, at_now, at_before, of_memory, of_age, cond_reads, memory_reads}
 use Rattle.ft_mean.specs.laws.EvaluationLaws.{Same}
 use Rattle.ft_mean.specs.laws.Moves.{moves, span_of, MayKeep, age_begins, age_goes_on, bit_goes_on}
@@ -27,7 +25,7 @@ use Rattle.ft_mean.specs.meaning.Allowed.{nat_at}
 use Rattle.ft_mean.specs.meaning.Cells.{defined}
 use Rattle.ft_mean.specs.meaning.Memory.{kept, look}
 use Rattle.ft_mean.specs.meaning.Proper.{AllProper}
-use Rattle.ft_mean.specs.meaning.Reading.{Reading, Scans, begins, elapsed, scan_before, IsVar}
+use Rattle.ft_mean.specs.meaning.Reading.{Reading, Scans, begins, elapsed, scan_before}
 use Rattle.ft_mean.specs.meaning.Refines.{FirstDiffers}
 use Rattle.ft_mean.specs.meaning.Value.{View, truth}
 use Rattle.ft_claims.specs.laws.GoodLaws.{IsThere}
@@ -35,8 +33,7 @@ use Rattle.ft_claims.specs.meaning.Claims.{claim_true}
 use Rattle.ft_claims.specs.meaning.Names.{width, memo, view, claim_of, kept_true}
 use Rattle.ft_claims.specs.meaning.Parts.{definition}
 use Rattle.ft_oblige.specs.laws.ReadsThere.{side_there, may_there}
-use Rattle.ft_oblige.specs.laws.Tests.{every_image, at_place}
-use Rattle.ft_oblige.specs.meaning.Lists.{is_first, list_frame, clauses_at, nat_claims}
+use Rattle.ft_oblige.specs.meaning.Lists.{is_first, list_frame, clauses_at}
 use Rattle.ft_unroll.specs.laws.Laws.{Laws}
 use Rattle.ft_unroll.specs.meaning.Unrolling.{reading_by, MeetsNat, MeetsScans, MeetsDifference}
 use Rattle.ft_unroll.proofs.FrameLemmas.{first_begins, scan_before_inside, before_same, clause_same, now_is_step, defined_alike, moves_from}
