@@ -1,16 +1,15 @@
 -- The parts of the formulas of lists have names of their scans, and positive divisors.
 use Rattle.std.proofs.Common.{◌≡◌, ◌∙◌, sym, ap, refl, ℕ, zero, suc, ◌+◌, ◌-◌, ◌*◌, ◌<◌, ◌≤◌, Bool, true, false, cond, List, ◌++◌, map, length}
-use Rattle.std.proofs.Common.{slice_get, Some, arith, ⊎_elim}
+use Rattle.std.proofs.Common.{slice_get, [], Option, None, Some, arith, ⊎_elim}
 use Rattle.std.specs.List.{Contains, list_all, range_with_len}
 use Rattle.std.proofs.lemmas.Bool.{and_from, cases_lt}
 use Rattle.std.proofs.lemmas.List.Folds.{list_all-map}
-use Rattle.std.proofs.lemmas.Option.{none-some, same_Some}
 use Rattle.std.proofs.Math.Nat.{suc-mul}
 use Rattle.ft_core.specs.declared.tables.Tables.{Tables}
+use Rattle.ft_core.specs.declared.tables.Memory.{Memory}
 use Rattle.ft_core.specs.declared.tables.Section.{Section}
 use Rattle.ft_core.specs.declared.tables.Section.TheVariants as section
 use Rattle.ft_core.specs.declared.term.Cond.{Cond}
-use Rattle.ft_core.specs.laws.Places.{some-at}
 use Rattle.ft_core.specs.meaning.Kinds.{monitored, defined_kinds, is_of}
 use Rattle.ft_core.specs.meaning.Reads.{Read, cond_reads}
 use Rattle.ft_mean.specs.meaning.Reading.{scan_before}
@@ -24,16 +23,12 @@ use Rattle.ft_claims.specs.meaning.Parts.{definition, move_of}
 use Rattle.ft_oblige.specs.laws.ListPartLaws.{ListsAreGood, DifferencesAreGood}
 use Rattle.ft_oblige.specs.laws.PartLaws.{Goods}
 use Rattle.ft_oblige.specs.laws.ReadsThere.{there, var_of, now_there, step_there}
+use Rattle.ft_oblige.specs.laws.Scans.{every_scan, scan_before_inside}
 use Rattle.ft_oblige.specs.laws.Tests.{every_image, both_lists, of_filter}
 use Rattle.ft_oblige.specs.meaning.Lists.{by_scan, is_first, list_frame, list_spans, clauses_at, nat_claims, list_parts, defined_places}
 use Rattle.ft_oblige.specs.meaning.Lists.{definitions_at, moves_at, sides_at, differs_at, difference_parts}
 use Rattle.ft_oblige.proofs.ListSpanLemmas.{lists_long}
 use Rattle.ft_oblige.proofs.PartLemmas.{clauses_good, clauses_sized}
-
--- what passes at each of n scans passes in all
-every_scan : (p : Claim → Bool) (f : ℕ → List Claim) (n : ℕ) → ((t : ℕ) → t < n → list_all p (f t) ≡ true) → list_all p (by_scan f n) ≡ true
-every_scan p f zero h = refl
-every_scan p f (suc n) h = both_lists p (by_scan f n) (f n) (every_scan p f n (λ t l. h t (omega (arith, l)))) (h n (omega arith))
 
 rolled : (base : ℕ) (c : Claim) (a_layer : Claim-F Claim) → roll-Claim a_layer ≡ c → collected base c
     ≡ layer_collected base (map-Claim Claim Collected (collected base) a_layer)
@@ -45,12 +40,6 @@ or_good : (base : ℕ) (cs : List Claim) → list_all (λ c. (collected base c).
 or_good base cs h = ap (λ (g : Collected). g.good) (rolled base _ (layer.Or cs) (rolls-Or cs))
     ∙ list_all-map (λ (g : Collected). g.good) (collected base) cs ∙ h
 
--- a place among the first n is below n
-in_range : (from n k u : ℕ) → slice_get (range_with_len from n) k ≡ Some u → u < from + n
-in_range from zero k u e = absurd (none-some u e)
-in_range from (suc n) zero u e = let is = same_Some from u e in omega (arith, is)
-in_range from (suc n) (suc k) u e = let more = in_range (from + 1) n k u e in omega (arith, more)
-
 -- the names of a scan end where those of the next one begin
 scan_end : (w t n : ℕ) → t < n → t * w + w ≤ n * w
 scan_end w t zero l = absurd (omega (arith, l))
@@ -59,10 +48,6 @@ scan_end w t (suc n) l = ⊎_elim
     (λ high. let same : t ≡ n = omega (arith, l, high) in
     let e : t * w ≡ n * w = ap (λ k. k * w) same in let more = suc-mul n w in omega (arith, e, more))
     (cases_lt t n)
-
-scan_before_inside : (n t : ℕ) → t < n → scan_before t < n
-scan_before_inside n zero l = l
-scan_before_inside n (suc t) l = omega (arith, l)
 
 module _ (goods : Goods) (S : Tables) (n t : ℕ) (inside : t < n) where
   abbrev base : ℕ
@@ -111,9 +96,12 @@ module _ (goods : Goods) (S : Tables) (n t : ℕ) (inside : t < n) where
   definitions_good section = every_image good (definition S section (list_frame S t)) (defined_places S section) (definition_good section)
 
   moves_good : list_all good (moves_at S t) ≡ true
-  moves_good = every_image good (λ m. move_of S (list_frame S t) m (slice_get S.memories m)) (range_with_len 0 (length S.memories)) (λ k m at.
-      let memory = some-at S.memories m (let l = in_range 0 (length S.memories) k m at in omega (arith, l)) in
-      ap (λ o. good (move_of S (list_frame S t) m o)) memory.1 ∙ goods.moves S (list_frame S t) base below m memory.0 memory.1)
+  moves_good = every_image good (λ m. move_of S (list_frame S t) m (slice_get S.memories m)) (range_with_len 0 (length S.memories))
+      (λ k m at. one m (slice_get S.memories m) refl)
+    where
+      one : (m : ℕ) (o : Option Memory) → slice_get S.memories m ≡ o → good (move_of S (list_frame S t) m o) ≡ true
+      one m None is = goods.conjunctions base [] refl
+      one m (Some memory) is = goods.moves S (list_frame S t) base below m memory is
 
   sides_good : list_all good (sides_at S t) ≡ true
   sides_good =

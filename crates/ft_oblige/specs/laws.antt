@@ -5,4 +5,5 @@ pub mod NumberLaws
 pub mod OwnSections
 pub mod PartLaws
 pub mod ReadsThere
+pub mod Scans
 pub mod Tests

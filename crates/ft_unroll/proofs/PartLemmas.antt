@@ -1,5 +1,5 @@
 -- The parts of the formulas of lists against what numbers meet.
-use Rattle.std.proofs.Common.{◌≡◌, ◌∙◌, sym, ap, refl, ℕ, ◌-◌, ◌<◌, ℤ, Bool, true, false, not, ◌++◌}
+use Rattle.std.proofs.Common.{◌≡◌, ◌∙◌, sym, ap, refl, ℕ, ◌-◌, ◌<◌, ℤ, Bool, true, false, not, [], ◌++◌}
 use Rattle.std.proofs.Common.{map, length, Option, None, Some, slice_get, arith, true≢false}
 use Rattle.std.specs.List.{list_all, range_with_len}
 use Rattle.std.proofs.lemmas.Bool.{and_parts, and_from}
@@ -10,22 +10,22 @@ use Rattle.ft_core.specs.declared.tables.Var.{Var}
 use Rattle.ft_core.specs.declared.tables.Memory as tables
 use Rattle.ft_core.specs.declared.tables.Section.{Section}
 use Rattle.ft_core.specs.declared.tables.Section.TheVariants as section
-use Rattle.ft_core.specs.laws.Places.{some-at}
 use Rattle.ft_core.specs.meaning.Kinds.{Kinds, controlled, defined_kinds, is_of}
 use Rattle.ft_linear.specs.laws.Nodes.{list_any-map}
 use Rattle.ft_mean.specs.meaning.Reading.{IsVar}
 use Rattle.ft_claims.specs.declared.claim.Claim.{Claim}
 use Rattle.ft_claims.specs.declared.claim.Claim.TheVariants.{Not}
-use Rattle.ft_claims.specs.laws.Equations.{true-Not, true-Or}
+use Rattle.ft_claims.specs.laws.Equations.{true-Not, true-And, true-Or}
 use Rattle.ft_claims.specs.meaning.Claims.{claim_true}
 use Rattle.ft_claims.specs.meaning.Parts.{definition, move_of}
 use Rattle.ft_oblige.specs.laws.ListPartLaws.{InListSpans}
 use Rattle.ft_oblige.specs.laws.ReadsThere.{var_of}
+use Rattle.ft_oblige.specs.laws.Scans.{every_scan, each_scan}
 use Rattle.ft_oblige.specs.laws.Tests.{every_image, both_lists, of_filter}
 use Rattle.ft_oblige.specs.meaning.Lists.{by_scan, list_frame, nat_claims, list_parts, defined_places, definitions_at, moves_at, sides_at}
 use Rattle.ft_oblige.specs.meaning.Lists.{differs_at, difference_parts}
 use Rattle.ft_unroll.specs.meaning.Unrolling.{MeetsSection, MeetsNat, MeetsScans, MeetsDifference}
-use Rattle.ft_unroll.proofs.ScanLists.{every_scan, each_scan, in_range, each_place, each_chosen, any_chosen, some_passes}
+use Rattle.ft_unroll.proofs.ScanLists.{each_place, each_chosen, any_chosen, some_passes}
 
 -- the other truth
 not_true : (b : Bool) → not b ≡ true → b ≡ false
@@ -68,9 +68,12 @@ module _ (S : Tables) (σ : ℕ → ℤ) where
   moves_into : (t : ℕ)
       → ((m : ℕ) (memory : tables.Memory) → slice_get S.memories m ≡ Some memory → claim_true σ (move_of S (list_frame S t) m (Some memory)) ≡ true)
       → list_all (claim_true σ) (moves_at S t) ≡ true
-  moves_into t met = every_image p (λ k. move_of S (list_frame S t) k (slice_get S.memories k)) (range_with_len 0 (length S.memories)) (λ k m at.
-      let memory = some-at S.memories m (let l = in_range 0 (length S.memories) k m at in omega (arith, l)) in
-      ap (λ o. claim_true σ (move_of S (list_frame S t) m o)) memory.1 ∙ met m memory.0 memory.1)
+  moves_into t met = every_image p (λ k. move_of S (list_frame S t) k (slice_get S.memories k)) (range_with_len 0 (length S.memories))
+      (λ k m at. one m (slice_get S.memories m) refl)
+    where
+      one : (m : ℕ) (o : Option tables.Memory) → slice_get S.memories m ≡ o → claim_true σ (move_of S (list_frame S t) m o) ≡ true
+      one m None is = true-And σ []
+      one m (Some memory) is = met m memory is
 
   -- both sides at a scan, taken apart
   pub record SidesAre (t : ℕ) : Type 0 where

@@ -17,6 +17,7 @@ use Rattle.ft_core.specs.declared.tables.Side.TheVariants as side
 use Rattle.ft_core.specs.declared.tables.Section.{Section}
 use Rattle.ft_core.specs.declared.tables.Section.TheVariants as section
 use Rattle.ft_core.specs.declared.term.Cond.{Cond}
+use Rattle.ft_core.specs.checked.Sound.{side_of}
 use Rattle.ft_core.specs.laws.Places.{some-at}
 use Rattle.ft_core.specs.meaning.Kinds.{monitored, controlled, of_kind, side_kinds}
 use Rattle.ft_core.specs.meaning.Reads.{Read, at_now, at_before, of_memory, of_age, cond_reads}
@@ -40,7 +41,7 @@ use Rattle.ft_oblige.specs.laws.Tests.{every_image, at_place, both_lists}
 use Rattle.ft_oblige.specs.meaning.Lists.{is_first, list_frame, clauses_at, nat_claims}
 use Rattle.ft_unroll.specs.laws.Laws.{Laws}
 use Rattle.ft_unroll.specs.meaning.Unrolling.{MeetsScans, MeetsDifference, list_state}
-use Rattle.ft_unroll.proofs.FrameLemmas.{first_begins, defined_alike}
+use Rattle.ft_unroll.proofs.FrameLemmas.{first_begins, defined_alike, moves_read}
 
 -- the scan of a number, and its place in it
 scan-of : (w t x : ℕ) → x < w → (t * w + x) / w ≡ t
@@ -103,22 +104,14 @@ module _ (laws : Laws) (S : Tables) (ρ : Reading) where
     kept = λ t m memory l is. kept_in_span t m memory is;
   }
 
-  moves_alike : (V W : View) (m : ℕ) (memory : tables.Memory) → slice_get S.memories m ≡ Some memory → ((r : Read) → IsThere S r → Same V W r)
-      → (anew : Bool) (a b : ℤ) → moves S anew V memory a b ≡ moves S anew W memory a b
-  moves_alike V W m (Held name s c hold) is same anew a b =
-      ap (λ t. cond anew (age_begins t b) (age_goes_on (elapsed S V.now) hold t a b))
-      (laws.same_truth V W c (λ r k. same r (side_there S s r (S.sound.memories_read m (Held name s c hold) r is k))))
-  moves_alike V W m (Hyst name s e lo hi start) is same anew a b =
-      ap (λ z. bit_goes_on lo hi z (cond anew start (int_eq a (pos 1))) (int_eq b (pos 1)))
-      (laws.same_value V W e (λ r k. same r (side_there S s r (S.sound.memories_read m (Hyst name s e lo hi start) r is k))))
-
   move_met : (t m : ℕ) (memory : tables.Memory) → slice_get S.memories m ≡ Some memory
       → claim_true (list_state S ρ) (move_of S (list_frame S t) m (Some memory)) ≡ true
   move_met t m memory is =
       let l = slice_get_within S.memories m memory is in
       laws.moves_say S (list_frame S t) σ m memory (kept_in_span (scan_before t) m memory is) (kept_in_span t m memory is)
       ∙ (λ i. moves S (first_begins laws S ρ t i) (view S (list_frame S t) σ) memory (roll_kept (scan_before t) m l i) (roll_kept t m l i))
-      ∙ moves_alike (view S (list_frame S t) σ) (look S ρ t) m memory is (λ r on. roll_same t r on) (begins S ρ t) (kept S ρ (scan_before t) m)
+      ∙ moves_read laws S (view S (list_frame S t) σ) (look S ρ t) memory
+      (λ r k. roll_same t r (side_there S (side_of memory) r (S.sound.memories_read m memory r is k))) (begins S ρ t) (kept S ρ (scan_before t) m)
       (kept S ρ t m)
       ∙ (laws.memories_move S ρ m memory is t).comes
 

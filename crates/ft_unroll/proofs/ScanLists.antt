@@ -1,4 +1,4 @@
--- Lists made scan by scan, and of the places of some variables: what passes in all of them and in each.
+-- Lists of the places of some variables: what passes in all of them and in each.
 use Rattle.std.proofs.Common.{◌≡◌, ◌∙◌, sym, ap, subst, refl, ℕ, zero, suc, ◌+◌, ◌<◌, ◌≤◌, Bool, true, false, ◌||◌, List, [], ◌∷◌, filter}
 use Rattle.std.proofs.Common.{length, Some, slice_get, arith, ⊎_elim, true≢false, ◌⊎◌}
 use Rattle.std.specs.Prelude.{slice_index_or}
@@ -9,27 +9,6 @@ use Rattle.std.proofs.lemmas.Option.{none-some, same_Some}
 use Rattle.ft_claims.specs.declared.claim.Claim.{Claim}
 use Rattle.ft_oblige.specs.laws.Tests.{both_lists}
 use Rattle.ft_oblige.specs.meaning.Lists.{by_scan}
-
--- what passes at each of n scans passes in all
-pub every_scan : (p : Claim → Bool) (f : ℕ → List Claim) (n : ℕ) → ((t : ℕ) → t < n → list_all p (f t) ≡ true)
-    → list_all p (by_scan f n) ≡ true
-every_scan p f zero h = refl
-every_scan p f (suc n) h = both_lists p (by_scan f n) (f n) (every_scan p f n (λ t l. h t (omega (arith, l)))) (h n (omega arith))
-
--- and what passes in all passes at each
-pub each_scan : (p : Claim → Bool) (f : ℕ → List Claim) (n : ℕ) → list_all p (by_scan f n) ≡ true → (t : ℕ) → t < n → list_all p (f t) ≡ true
-each_scan p f zero h t l = absurd (omega (arith, l))
-each_scan p f (suc n) h t l =
-    let both = and_parts (list_all p (by_scan f n)) (list_all p (f n)) (sym (list_all-append p (by_scan f n) (f n)) ∙ h) in ⊎_elim
-    (λ less. each_scan p f n both.0 t less)
-    (λ high. let same : n ≡ t = omega (arith, l, high) in subst (λ k. list_all p (f k) ≡ true) same both.1)
-    (cases_lt t n)
-
--- a place among some is below their end
-pub in_range : (from n k u : ℕ) → slice_get (range_with_len from n) k ≡ Some u → u < from + n
-in_range from zero k u e = absurd (none-some u e)
-in_range from (suc n) zero u e = let is = same_Some from u e in omega (arith, is)
-in_range from (suc n) (suc k) u e = let more = in_range (from + 1) n k u e in omega (arith, more)
 
 -- what all places pass
 pub each_place : (p : ℕ → Bool) (from n x : ℕ) → list_all p (range_with_len from n) ≡ true → from ≤ x → x < from + n → p x ≡ true

@@ -33,10 +33,12 @@ use Rattle.ft_claims.specs.meaning.Claims.{claim_true}
 use Rattle.ft_claims.specs.meaning.Names.{width, memo, view, claim_of, kept_true}
 use Rattle.ft_claims.specs.meaning.Parts.{definition}
 use Rattle.ft_oblige.specs.laws.ReadsThere.{side_there, may_there}
+use Rattle.ft_oblige.specs.laws.Scans.{scan_before_inside}
+use Rattle.ft_oblige.specs.laws.Tests.{every, at_place}
 use Rattle.ft_oblige.specs.meaning.Lists.{is_first, list_frame, clauses_at}
 use Rattle.ft_unroll.specs.laws.Laws.{Laws}
 use Rattle.ft_unroll.specs.meaning.Unrolling.{reading_by, MeetsNat, MeetsScans, MeetsDifference}
-use Rattle.ft_unroll.proofs.FrameLemmas.{first_begins, scan_before_inside, before_same, clause_same, now_is_step, defined_alike, moves_from}
+use Rattle.ft_unroll.proofs.FrameLemmas.{first_begins, before_same, clause_same, now_is_step, defined_alike, moves_read, moves_from}
 
 module _ (laws : Laws) (S : Tables) (σ : ℕ → ℤ) where
   -- clauses that hold of numbers hold along their reading
@@ -49,14 +51,8 @@ module _ (laws : Laws) (S : Tables) (σ : ℕ → ℤ) where
       let W = look S (reading_by S σ) t in
       let inside : list_all (λ c. claim_true σ (claim_of S (list_frame S t) c)) conds ≡ true =
       sym (list_all-map (claim_true σ) (claim_of S (list_frame S t)) conds) ∙ all in
-      each (λ c. claim_true σ (claim_of S (list_frame S t) c)) (truth W) conds
-      (λ k c at. sym (laws.conditions_say S (list_frame S t) σ c ∙ laws.same_truth V W c (λ r here. reads k c r at here))) inside
-    where
-      each : (p q : Cond → Bool) (xs : List Cond) → ((k : ℕ) (c : Cond) → slice_get xs k ≡ Some c → q c ≡ p c) → list_all p xs ≡ true
-          → list_all q xs ≡ true
-      each p q [] same h = refl
-      each p q (x ∷ xs) same h = let both = and_parts (p x) (list_all p xs) h in
-          and_from (q x) (list_all q xs) (same zero x refl ∙ both.0) (each p q xs (λ k c at. same (suc k) c at) both.1)
+      every (truth W) conds (λ k c at. sym (laws.conditions_say S (list_frame S t) σ c ∙ laws.same_truth V W c (λ r here. reads k c r at here))
+      ∙ at_place (λ d. claim_true σ (claim_of S (list_frame S t) d)) conds inside k c at)
 
   -- the environment's clauses
   pub nat_holds : (n : ℕ) → MeetsNat S n σ → (t : ℕ) → t < n → nat_at S (reading_by S σ) t ≡ true
@@ -102,14 +98,6 @@ module _ (laws : Laws) (S : Tables) (n : ℕ) (σ : ℕ → ℤ) (met : MeetsSca
   may_keep (Held name s c hold) z h = tt
   may_keep (Hyst name s e lo hi start) z h = h
 
-  moves_read : (V W : View) (m : ℕ) (memory : tables.Memory) → slice_get S.memories m ≡ Some memory
-      → ((r : Read) → Contains (memory_reads (Some memory)) r → Same V W r) → (anew : Bool) (a b : ℤ)
-      → moves S anew V memory a b ≡ moves S anew W memory a b
-  moves_read V W m (Held name s c hold) is same anew a b =
-      ap (λ t. cond anew (age_begins t b) (age_goes_on (elapsed S V.now) hold t a b)) (laws.same_truth V W c same)
-  moves_read V W m (Hyst name s e lo hi start) is same anew a b =
-      ap (λ z. bit_goes_on lo hi z (cond anew start (int_eq a (pos 1))) (int_eq b (pos 1))) (laws.same_value V W e same)
-
   module _ (order : HasOrder S.vars S.memories S.tables) where
     -- the memories of this scan that are read first
     abbrev Below : ℕ → ℕ → Type 0
@@ -133,7 +121,7 @@ module _ (laws : Laws) (S : Tables) (n : ℕ) (σ : ℕ → ℤ) (met : MeetsSca
         let kept_now = met.spans.kept t m memory l is in
         let move = sym (laws.moves_say S (list_frame S t) σ m memory (met.spans.kept (scan_before t) m memory (scan_before_inside n t l) is)
         kept_now) ∙ met.moved t m memory l is in
-        let seen = sym (moves_read V (look S ρ t) m memory is (read_same t k m memory is below low) (is_first t) last now) ∙ move in
+        let seen = sym (moves_read laws S V (look S ρ t) memory (read_same t k m memory is below low) (is_first t) last now) ∙ move in
         let by_kept = sym (moves_from S (is_first t) (look S ρ t) memory last (kept S ρ (scan_before t) m) now (λ e. past e m memory is)) ∙ seen in
         let by_begins = ap (λ b. moves S b (look S ρ t) memory (kept S ρ (scan_before t) m) now) (sym (first_begins laws S ρ t)) ∙ by_kept in
         (laws.memories_move S ρ m memory is t).alone now (may_keep memory now kept_now) by_begins
