@@ -1,8 +1,7 @@
 -- A whole reading gives numbers that meet the formulas of a list.
-use Rattle.std.proofs.Common.{◌≡◌, ◌∙◌, sym, ap, subst, refl, ℕ, suc, ◌+◌, ◌-◌, ◌*◌, ◌/◌, ◌<◌, ℤ, pos, Bool, true, false, cond, ◌||◌, List}
+use Rattle.std.proofs.Common.{◌≡◌, ◌∙◌, sym, ap, subst, refl, ℕ, suc, ◌+◌, ◌-◌, ◌*◌, ◌/◌, ◌<◌, ℤ, Bool, true, false, cond, ◌||◌, List}
 use Rattle.std.proofs.Common.{◌++◌, length, Some, slice_get, arith}
 use Rattle.std.specs.Prelude.{nat_lt}
-use Rattle.std.specs.Ordering.{int_eq}
 use Rattle.std.specs.List.{list_all, Contains}
 use Rattle.std.proofs.lemmas.Bool.{and_parts, cond-true, cond-false, lt-ltb, le-ltb}
 use Rattle.std.proofs.lemmas.Option.{slice_get_within}
@@ -11,7 +10,6 @@ use Rattle.ft_base.specs.Interval.{IsWithin}
 use Rattle.ft_core.specs.declared.tables.Tables.{Tables}
 use Rattle.ft_core.specs.declared.tables.Var.{Var}
 use Rattle.ft_core.specs.declared.tables.Memory as tables
-use Rattle.ft_core.specs.declared.tables.Memory.TheVariants.{Held, Hyst}
 use Rattle.ft_core.specs.declared.tables.VarKind.TheVariants as kind
 use Rattle.ft_core.specs.declared.tables.Side.TheVariants as side
 use Rattle.ft_core.specs.declared.tables.Section.{Section}
@@ -22,15 +20,15 @@ use Rattle.ft_core.specs.laws.Places.{some-at}
 use Rattle.ft_core.specs.meaning.Kinds.{monitored, controlled, of_kind, side_kinds}
 use Rattle.ft_core.specs.meaning.Reads.{Read, at_now, at_before, of_memory, of_age, cond_reads}
 use Rattle.ft_mean.specs.laws.EvaluationLaws.{Same}
-use Rattle.ft_mean.specs.laws.Moves.{moves, span_of, age_begins, age_goes_on, bit_goes_on}
+use Rattle.ft_mean.specs.laws.Moves.{moves, span_of}
 use Rattle.ft_mean.specs.laws.Whole.{joint, IsWhole}
 use Rattle.ft_mean.specs.meaning.Allowed.{nat_at}
 use Rattle.ft_mean.specs.meaning.Cells.{defined}
 use Rattle.ft_mean.specs.meaning.Memory.{kept, look}
 use Rattle.ft_mean.specs.meaning.Proper.{AllProper}
-use Rattle.ft_mean.specs.meaning.Reading.{Reading, Scans, begins, elapsed, init_of, scan_before}
+use Rattle.ft_mean.specs.meaning.Reading.{Reading, Scans, begins, init_of, scan_before}
 use Rattle.ft_mean.specs.meaning.Refines.{FirstDiffers}
-use Rattle.ft_mean.specs.meaning.Value.{View, truth}
+use Rattle.ft_mean.specs.meaning.Value.{truth}
 use Rattle.ft_claims.specs.laws.GoodLaws.{IsThere}
 use Rattle.ft_claims.specs.meaning.Claims.{claim_true}
 use Rattle.ft_claims.specs.meaning.Names.{width, memo, view, claim_of, kept_true}

@@ -4,11 +4,6 @@ use Rattle.std.proofs.Common.{length, Some, slice_get, arith, ⊎_elim, true≢f
 use Rattle.std.specs.Prelude.{slice_index_or}
 use Rattle.std.specs.List.{list_all, list_any, range_with_len}
 use Rattle.std.proofs.lemmas.Bool.{and_parts, cases_Bool, cases_lt, cond-true, cond-false}
-use Rattle.std.proofs.lemmas.List.Folds.{list_all-append}
-use Rattle.std.proofs.lemmas.Option.{none-some, same_Some}
-use Rattle.ft_claims.specs.declared.claim.Claim.{Claim}
-use Rattle.ft_oblige.specs.laws.Tests.{both_lists}
-use Rattle.ft_oblige.specs.meaning.Lists.{by_scan}
 
 -- what all places pass
 pub each_place : (p : ℕ → Bool) (from n x : ℕ) → list_all p (range_with_len from n) ≡ true → from ≤ x → x < from + n → p x ≡ true

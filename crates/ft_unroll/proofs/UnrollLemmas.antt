@@ -1,7 +1,6 @@
 -- Numbers that meet the formulas of a list are a whole reading, and those of the memories are the ones that they keep.
-use Rattle.std.proofs.Common.{◌≡◌, ◌∙◌, sym, ap, subst, refl, ℕ, zero, suc, ◌*◌, ◌<◌, ℤ, pos, Bool, true, false, cond, List, [], ◌∷◌, ◌++◌}
+use Rattle.std.proofs.Common.{◌≡◌, ◌∙◌, sym, ap, subst, refl, ℕ, zero, suc, ◌*◌, ◌<◌, ℤ, Bool, true, false, cond, List, ◌++◌}
 use Rattle.std.proofs.Common.{length, Some, slice_get, arith, true≢false}
-use Rattle.std.specs.Ordering.{int_eq}
 use Rattle.std.specs.List.{list_all, Contains}
 use Rattle.std.proofs.lemmas.Bool.{and_parts, and_from}
 use Rattle.std.proofs.lemmas.List.Folds.{list_all-append, list_all-map}
@@ -19,13 +18,13 @@ use Rattle.ft_core.specs.laws.Places.{some-at}
 use Rattle.ft_core.specs.meaning.Kinds.{monitored}
 use Rattle.ft_core.specs.meaning.Reads.{Read, at_now, at_before, of_memory, of_age, cond_reads, memory_reads}
 use Rattle.ft_mean.specs.laws.EvaluationLaws.{Same}
-use Rattle.ft_mean.specs.laws.Moves.{moves, span_of, MayKeep, age_begins, age_goes_on, bit_goes_on}
+use Rattle.ft_mean.specs.laws.Moves.{moves, span_of, MayKeep}
 use Rattle.ft_mean.specs.laws.Whole.{IsWhole}
 use Rattle.ft_mean.specs.meaning.Allowed.{nat_at}
 use Rattle.ft_mean.specs.meaning.Cells.{defined}
 use Rattle.ft_mean.specs.meaning.Memory.{kept, look}
 use Rattle.ft_mean.specs.meaning.Proper.{AllProper}
-use Rattle.ft_mean.specs.meaning.Reading.{Reading, Scans, begins, elapsed, scan_before}
+use Rattle.ft_mean.specs.meaning.Reading.{Reading, Scans, begins, scan_before}
 use Rattle.ft_mean.specs.meaning.Refines.{FirstDiffers}
 use Rattle.ft_mean.specs.meaning.Value.{View, truth}
 use Rattle.ft_claims.specs.laws.GoodLaws.{IsThere}

@@ -1,5 +1,5 @@
 -- What passes at each scan of a list and in all together, without a tactic: the crates above cite these too.
-use Rattle.std.proofs.Common.{◌≡◌, ◌∙◌, sym, subst, refl, ⊎_elim, ℕ, zero, suc, ◌<◌, Bool, true, List, ◌++◌}
+use Rattle.std.proofs.Common.{◌≡◌, ◌∙◌, sym, subst, refl, ⊎_elim, ℕ, zero, suc, ◌<◌, Bool, true, List}
 use Rattle.std.specs.List.{list_all}
 use Rattle.std.proofs.Math.Nat.{not-suc-le-zero, le_of_suc-le-suc, le-suc, lt-suc_self, le_trans, le_antisymm}
 use Rattle.std.proofs.lemmas.Bool.{and_parts, cases_lt}
