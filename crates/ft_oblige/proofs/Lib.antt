@@ -1,3 +1,5 @@
+pub mod ListGoodLemmas
+pub mod ListSpanLemmas
 pub mod NumberLemmas
 pub mod OneLemmas
 pub mod PartLemmas
