@@ -1,6 +1,7 @@
 pub mod AreaLemmas
 pub mod Arithmetic
 pub mod BeginLemmas
+pub mod CellAlikeLemmas
 pub mod CellTests
 pub mod ClaimLemmas
 pub mod CollectingLemmas
@@ -15,6 +16,7 @@ pub mod GapLemmas
 pub mod GatherLemmas
 pub mod GoodLemmas
 pub mod KernelLemmas
+pub mod KeptLemmas
 pub mod LinkLemmas
 pub mod Lists
 pub mod LocalLemmas
@@ -25,6 +27,7 @@ pub mod MoveLemmas
 pub mod NamingLemmas
 pub mod NumberLemmas
 pub mod ObligedLemmas
+pub mod PartAlikeLemmas
 pub mod PartGood
 pub mod ReadLemmas
 pub mod ReadsThere

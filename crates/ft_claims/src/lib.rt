@@ -1,6 +1,7 @@
 //! What the obligations of a set claim, and their formulas.
 #![tactic(auto)]
 
+mod cells;
 mod claim;
 mod claims;
 mod counting;
@@ -18,6 +19,7 @@ mod terms;
 mod values;
 mod wholes;
 
+pub use cells::cell_laws;
 pub use claim::{Claim, Sym};
 pub use claims::claim_of;
 pub use counting::numbers_by;
