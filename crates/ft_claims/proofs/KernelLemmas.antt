@@ -56,7 +56,7 @@ pub unknowns-Not : (inner : Raw) → unknowns_of (raw.Not inner) ≡ unknowns_of
 unfolding unknowns_of
 unknowns-Not inner = folds (List ℕ) layer_unknowns _ (open_raw.Not inner) (rolls-Not inner)
 
-flat-map-map : {A B C : Type 0} (g : B → List C) (f : A → B) (xs : List A) → flat_map g (map f xs) ≡ flat_map (λ x. g (f x)) xs
+pub flat-map-map : {A B C : Type 0} (g : B → List C) (f : A → B) (xs : List A) → flat_map g (map f xs) ≡ flat_map (λ x. g (f x)) xs
 flat-map-map g f [] = refl
 flat-map-map g f (x ∷ xs) = ap (λ r. g (f x) ++ r) (flat-map-map g f xs)
 

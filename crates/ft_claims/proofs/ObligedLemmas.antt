@@ -86,7 +86,7 @@ all-self (u ∷ us) vs h = (
   all-self us vs (λ v is. h v (or_right (u == v) (is_one_of us v) is)),
 )
 
-all-of-weaker : (P Q : ℕ → Type 0) (us : List ℕ) → ((u : ℕ) → P u → Q u) → AllOf P us → AllOf Q us
+pub all-of-weaker : (P Q : ℕ → Type 0) (us : List ℕ) → ((u : ℕ) → P u → Q u) → AllOf P us → AllOf Q us
 all-of-weaker P Q [] h p = tt
 all-of-weaker P Q (u ∷ us) h p = (h u p.0, all-of-weaker P Q us h p.1)
 
@@ -160,17 +160,17 @@ value-in-place f us u is =
     let same = (Decides-eqb at.0 u).0 at.2 in
     get_or_from_slice_get (map f us) (place_in us u) (f u) (pos 0) (mapped-at f us (place_in us u) at.0 at.1 ∙ ap (λ v. Some (f v)) same)
 
-flat-map-append : {A B : Type 0} (f : A → List B) (xs ys : List A) → flat_map f (xs ++ ys) ≡ flat_map f xs ++ flat_map f ys
+pub flat-map-append : {A B : Type 0} (f : A → List B) (xs ys : List A) → flat_map f (xs ++ ys) ≡ flat_map f xs ++ flat_map f ys
 flat-map-append f [] ys = refl
 flat-map-append f (x ∷ xs) ys = ap (λ r. f x ++ r) (flat-map-append f xs ys) ∙ sym (append-assoc (f x) (flat_map f xs) (flat_map f ys))
 
-length-with-spans : (T : Entries) (spans : Spans) → length (with_spans spans T) ≡ length spans + length T
+pub length-with-spans : (T : Entries) (spans : Spans) → length (with_spans spans T) ≡ length spans + length T
 length-with-spans [] spans = omega arith
 length-with-spans (e ∷ T) spans =
     let more = length-with-spans T (spans ++ quotient_span spans e ∷ []) in let one = length_push spans (quotient_span spans e) in
     omega (arith, more, one)
 
-range-bound : (from n i u : ℕ) → slice_get (range_with_len from n) i ≡ Some u → u < from + n
+pub range-bound : (from n i u : ℕ) → slice_get (range_with_len from n) i ≡ Some u → u < from + n
 range-bound from zero i u e = absurd (none-some u e)
 range-bound from (suc n) zero u e = let is = same_Some from u e in omega (arith, is)
 range-bound from (suc n) (suc i) u e = let more = range-bound (from + 1) n i u e in omega (arith, more)
@@ -213,7 +213,7 @@ module _ (spans : Spans) (parts : List Claim) (good : list_all (λ (g : Collecte
         up : (a b : ℕ) → nat_le a (a + b) ≡ true
         up a b = grind arith
 
-    all_used : AllOf IsUsed (unknowns_of (formula_of base parts))
+    pub all_used : AllOf IsUsed (unknowns_of (formula_of base parts))
     all_used = subst (AllOf IsUsed) (sym (unknowns-And (raws ++ conjuncts base T) ∙ flat-map-append unknowns_of raws (conjuncts base T)))
         (all-append IsUsed (flat_map unknowns_of raws) (flat_map unknowns_of (conjuncts base T)) raws_used
         (conjuncts-in IsUsed T base own_used pairs_used))
@@ -271,10 +271,11 @@ module _ (spans : Spans) (parts : List Claim) (good : list_all (λ (g : Collecte
         (λ d e is. all-weaker IsNamed (λ u. u < base → fill base σ T u ≡ τ u) e.0.factors
         (λ u one low. fill-below T base σ u low ∙ agree u low one) (pairs_named d e is))
 
+-- what stands in a filtered list passes the test
+pub by-used : (p : ℕ → Bool) (us : List ℕ) (u : ℕ) → is_one_of (filter p us) u ≡ true → p u ≡ true
+by-used p us u one = let at = of_any (λ v. v == u) (filter p us) one in
+    subst (λ v. p v ≡ true) ((Decides-eqb at.1 u).0 at.3) (of_filter p us at.0 at.1 at.2)
+
 pub points_tell : PointsTell
 points_tell spans parts good p point σ gives = told_by spans parts good p point σ
     (λ u low one. gives u low (by-used (is_used (length spans) parts) _ u one))
-  where
-    by-used : (p : ℕ → Bool) (us : List ℕ) (u : ℕ) → is_one_of (filter p us) u ≡ true → p u ≡ true
-    by-used p us u one = let at = of_any (λ v. v == u) (filter p us) one in
-        subst (λ v. p v ≡ true) ((Decides-eqb at.1 u).0 at.3) (of_filter p us at.0 at.1 at.2)

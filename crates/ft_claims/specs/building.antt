@@ -1,2 +1,2 @@
 -- What the steps of building a formula compute with.
-pub mod Pairing
+pub mod Marking

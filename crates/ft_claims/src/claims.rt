@@ -13,14 +13,14 @@ use ft_core::{Cond, Memory, Rel, Tables};
 use std::alloc::Global;
 
 /// The other truth of a condition.
-pub(crate) fn denied(alloc: Global, inner: Claim) -> Result<Claim, NoMemory>
+pub fn denied(alloc: Global, inner: Claim) -> Result<Claim, NoMemory>
     ensures { IfOk result (λ whole. whole ≡ claim.Not inner) }
 {
     Ok(Claim::Not(Boxed::new(alloc, inner)?))
 }
 
 /// Two conditions as a list.
-pub(crate) fn pair(alloc: Global, first: Claim, second: Claim) -> Result<List<Claim>, NoMemory>
+pub fn pair(alloc: Global, first: Claim, second: Claim) -> Result<List<Claim>, NoMemory>
     ensures { IfOk result (λ list. list ≡ first ∷ second ∷ []) }
 {
     let mut list = List::new(alloc);
@@ -30,7 +30,7 @@ pub(crate) fn pair(alloc: Global, first: Claim, second: Claim) -> Result<List<Cl
 }
 
 /// That two terms are equal.
-pub(crate) fn equal(alloc: Global, first: Sym, second: Sym) -> Result<Claim, NoMemory>
+pub fn equal(alloc: Global, first: Sym, second: Sym) -> Result<Claim, NoMemory>
     ensures { IfOk result (λ whole. whole ≡ equal first second) }
 {
     let left = copy_of(alloc, &first)?;
@@ -53,7 +53,7 @@ fn compared(alloc: Global, relation: Rel, first: Sym, second: Sym) -> Result<Cla
 }
 
 /// That a bit is 1.
-pub(crate) fn is_one(alloc: Global, bit: Sym) -> Result<Claim, NoMemory>
+pub fn is_one(alloc: Global, bit: Sym) -> Result<Claim, NoMemory>
     ensures { IfOk result (λ whole. whole ≡ equal bit (out.Num (pos 1))) }
 {
     equal(alloc, bit, Sym::Num(1))

@@ -4,13 +4,13 @@ use std::marker::Model;
 #[derive(Drop)]
 pub struct Frame {
     /// The number of the first name of the scan.
-    pub(crate) this: u32,
+    pub this: u32,
     /// That of the scan before.
-    pub(crate) prior: u32,
+    pub prior: u32,
     /// Whether the scan begins, so that there is none before.
-    pub(crate) anew: bool,
+    pub anew: bool,
     /// Whether each memory stands for its truth alone.
-    pub(crate) bits: bool,
+    pub bits: bool,
 }
 
 impl Model for Frame {

@@ -2,7 +2,7 @@ ghost use Rattle.ft_claims.specs.laws.ClaimLaws.{TermsSay, ConditionsSay, CellsS
 ghost use Rattle.ft_claims.specs.laws.CoverLaws.{NodesSay, MetIsShown, ShownIsMet, ProperShowsNone, ProperIsUnmet};
 ghost use Rattle.ft_claims.specs.laws.FormulaLaws.{PointsTell, NumbersMakePoints, TrueAlike, SettledAlike};
 ghost use Rattle.ft_claims.specs.laws.Laws.{Laws};
-ghost use Rattle.ft_claims.specs.laws.PointLaws.{PointsAreLocal, PointsShow, ShownHasPoint, ProperHasNoPoint};
+ghost use Rattle.ft_claims.specs.laws.PointLaws.{CoverIsGood, PointsAreLocal, PointsShow, ShownHasPoint, ProperHasNoPoint};
 
 use ft_mean::{evaluation_laws, table_laws};
 use ft_settle::settling_law;
@@ -30,10 +30,11 @@ pub fn cover_laws()
     laws();
 }
 
-/// The three formulas of a table's coverage. Some local view has the values of a point, and at every view that has them the
+/// The three formulas of a table's coverage. Each name in them has a span. Some local view has the values of a point, and at every view that has them the
 /// table shows the fault; where it shows the fault at a local view there is a point. So the table is proper exactly where
 /// none of the three has a point.
 pub fn point_laws()
+    ensures good { CoverIsGood }
     ensures local { PointsAreLocal }
     ensures show { PointsShow }
     ensures has_point { ShownHasPoint }

@@ -21,14 +21,14 @@ fn slot(number: u64) -> Result<Sym, NoMemory>
 }
 
 /// The name of a variable of a scan whose names begin at `base`.
-pub(crate) fn variable_name(base: u32, variable: u32) -> Result<Sym, NoMemory>
+pub fn variable_name(base: u32, variable: u32) -> Result<Sym, NoMemory>
     ensures { IfOk result (λ term. term ≡ out.Slot (base + variable)) }
 {
     slot(u64::from(base) + u64::from(variable))
 }
 
 /// The name of a memory of such a scan.
-pub(crate) fn memory_name(tables: &Tables, base: u32, memory: u32) -> Result<Sym, NoMemory>
+pub fn memory_name(tables: &Tables, base: u32, memory: u32) -> Result<Sym, NoMemory>
     ensures { IfOk result (λ term. term ≡ out.Slot (memo tables.now base memory)) }
 {
     let variables = tables.vars.len() as u64;
@@ -62,7 +62,7 @@ fn negated(alloc: Global, inner: Sym) -> Result<Sym, NoMemory>
 }
 
 /// The sum of two terms.
-pub(crate) fn sum(alloc: Global, first: Sym, second: Sym) -> Result<Sym, NoMemory>
+pub fn sum(alloc: Global, first: Sym, second: Sym) -> Result<Sym, NoMemory>
     ensures { IfOk result (λ term. term ≡ out.Add first second) }
 {
     let first = Boxed::new(alloc, first)?;
@@ -117,7 +117,7 @@ pub fn sym_of(alloc: Global, tables: &Tables, frame: &Frame, term: &Term) -> Res
 }
 
 /// A copy of a term.
-pub(crate) fn copy_of(alloc: Global, term: &Sym) -> Result<Sym, NoMemory>
+pub fn copy_of(alloc: Global, term: &Sym) -> Result<Sym, NoMemory>
     ensures { IfOk result (λ copy. copy ≡ term.now) }
 {
     match term {

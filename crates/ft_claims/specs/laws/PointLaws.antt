@@ -7,6 +7,7 @@ use Rattle.ft_core.specs.meaning.Reads.{grid_reads}
 use Rattle.ft_linear.specs.meaning.Form.{values_at}
 use Rattle.ft_mean.specs.meaning.Proper.{IsLocal, IsProper}
 use Rattle.ft_mean.specs.meaning.Value.{View}
+use Rattle.ft_claims.specs.laws.FormulaLaws.{AreGood}
 use Rattle.ft_claims.specs.meaning.Areas.{Obliged, is_used, used, place_in, finished}
 use Rattle.ft_claims.specs.meaning.Coverage.{Fault, cover_parts}
 use Rattle.ft_claims.specs.meaning.Names.{width}
@@ -25,6 +26,11 @@ abbrev pub HasValues : Tables → Fault → Grid → List ℕ → List ℤ → V
 HasValues S fault grid ms p V = (u : ℕ) → u < width S + length S.vars → IsTrue
     (is_used (length (cover_spans S)) (cover_parts S fault grid ms) u)
     → values_at p (place_in (used (length (cover_spans S)) (cover_parts S fault grid ms)) u) ≡ cover_numbers S V u
+
+-- the names of its parts have spans, and their divisors are positive
+abbrev pub CoverIsGood : Type 0
+CoverIsGood = (S : Tables) (k : ℕ) (table : Table) → slice_get S.tables k ≡ Some table → (ms : List ℕ)
+    → AreReadMemories S (grid_reads table.grid) ms → (fault : Fault) → AreGood (cover_spans S) (cover_parts S fault table.grid ms)
 
 -- some local view has the values of a point
 abbrev pub PointsAreLocal : Type 0
