@@ -233,17 +233,19 @@ beyond-outside S σ None cell = and_none (cell_holds (view S (cover_frame S) σ)
     and_none false = refl
 beyond-outside S σ (Some v) cell = refl
 
-module _ (laws : Laws) (S : Tables) (k : ℕ) (table : Table) (there : slice_get S.tables k ≡ Some table) (ms : List ℕ)
-    (are : AreReadMemories S (grid_reads table.grid) ms) where
-  abbrev told_view : View → View
-  told_view V = view S (cover_frame S) (cover_numbers S V)
+-- the view that the numbers of a view tell
+abbrev told_view : Tables → View → View
+told_view S V = view S (cover_frame S) (cover_numbers S V)
 
+module _ (laws : Laws) (S : Tables) (k : ℕ) (table : Table) (there : slice_get S.tables k ≡ Some table) where
   -- a cell at a view and at the view that its numbers tell
   cell_again : (V : View) (j : ℕ) (cell : Cell) → slice_get (cells table.grid) j ≡ Some cell
-      → (cell_holds (told_view V) cell ≡ cell_holds V cell) × (value (told_view V) cell.term ≡ value V cell.term)
-  cell_again V j cell at = laws.same_cell (told_view V) V cell (λ r c. cover_same S V r (table_ageless S k table there r
+      → (cell_holds (told_view S V) cell ≡ cell_holds V cell) × (value (told_view S V) cell.term ≡ value V cell.term)
+  cell_again V j cell at = laws.same_cell (told_view S V) V cell (λ r c. cover_same S V r (table_ageless S k table there r
       (laws.cells_read table.grid j cell r at c)))
 
+module _ (laws : Laws) (S : Tables) (k : ℕ) (table : Table) (there : slice_get S.tables k ≡ Some table) (ms : List ℕ)
+    (are : AreReadMemories S (grid_reads table.grid) ms) where
   module _ (fault : Fault) (p : List ℤ) (V W : View) (has : HasValues S fault table.grid ms p V) (get : HasValues S fault table.grid ms p W)
     where
       agree : (u : ℕ) → u < length (cover_spans S) → IsTrue (is_used (length (cover_spans S)) (cover_parts S fault table.grid ms) u)
@@ -267,30 +269,36 @@ module _ (laws : Laws) (S : Tables) (k : ℕ) (table : Table) (there : slice_get
       → HasValues S overlap table.grid ms p W → holding V (cells table.grid) ≡ holding W (cells table.grid)
   overlaps p point V W has get =
       let shown = points_show laws S k table there ms are overlap p point V has in
-      let told = shown_again laws S k table there (told_view V) V (λ r c. cover_same S V r (table_ageless S k table there r c)) overlap
+      let told = shown_again laws S k table there (told_view S V) V (λ r c. cover_same S V r (table_ageless S k table there r c)) overlap
       shown in
       let claimed = (nodes_say S k table there (cover_frame S) (cover_numbers S V) overlap).1 told in
       let ok = grid_told S (cover_numbers S V) (cover_numbers S W) table.grid (cover_parts S overlap table.grid ms)
       (shaped S k table there) refl
       (alike overlap p V W has get) claimed in
       same-filter (cell_holds V) (cell_holds W) (cells table.grid) (λ j cell at.
-      sym (cell_again V j cell at).0
-      ∙ cells-same (told_view V) (told_view W) cell
-      (at_place (CellOk (λ c. same_bool (truth (told_view V) c) (truth (told_view W) c)) (λ e. true)) (cells table.grid) ok j cell at)
-      ∙ (cell_again W j cell at).0)
+      sym (cell_again laws S k table there V j cell at).0
+      ∙ cells-same (told_view S V) (told_view S W) cell
+      (at_place (CellOk (λ c. same_bool (truth (told_view S V) c) (truth (told_view S W) c)) (λ e. true)) (cells table.grid) ok j cell at)
+      ∙ (cell_again laws S k table there W j cell at).0)
 
   ranges : (p : List ℤ) (V W : View) → HasValues S range table.grid ms p V → HasValues S range table.grid ms p W
       → filter (is_beyond S V) (cells table.grid) ≡ filter (is_beyond S W) (cells table.grid)
   ranges p V W has get = same-filter (is_beyond S V) (is_beyond S W) (cells table.grid) (λ j cell at.
       let o = slice_get S.vars cell.target in
-      let v = cell_again V j cell at in let w = cell_again W j cell at in
+      let v = cell_again laws S k table there V j cell at in let w = cell_again laws S k table there W j cell at in
       let same = alike range p V W has get (outside S (cover_frame S) o cell)
       (of_or j (map (λ (cell : Cell). outside S (cover_frame S) (slice_get S.vars cell.target) cell) (cells table.grid)) (one zero refl)
       (mapped-at (λ (cell : Cell). outside S (cover_frame S) (slice_get S.vars cell.target) cell) (cells table.grid) j cell at)) in
-      beyond-same V (told_view V) o cell (sym v.0) (sym v.1) ∙ beyond-outside S (cover_numbers S V) o cell
+      beyond-same V (told_view S V) o cell (sym v.0) (sym v.1) ∙ beyond-outside S (cover_numbers S V) o cell
       ∙ sym (outside-says S (cover_frame S) (cover_numbers S V) o cell) ∙ same
       ∙ outside-says S (cover_frame S) (cover_numbers S W) o cell ∙ sym (beyond-outside S (cover_numbers S W) o cell)
-      ∙ beyond-same (told_view W) W o cell w.0 w.1)
+      ∙ beyond-same (told_view S W) W o cell w.0 w.1)
+
+-- the same cells hold at a view and at the one that its numbers tell
+pub holding_again : (laws : Laws) (S : Tables) (k : ℕ) (table : Table) → slice_get S.tables k ≡ Some table → (V : View)
+    → holding (view S (cover_frame S) (cover_numbers S V)) (cells table.grid) ≡ holding V (cells table.grid)
+holding_again laws S k table there V = same-filter (cell_holds (view S (cover_frame S) (cover_numbers S V))) (cell_holds V)
+    (cells table.grid) (λ j cell at. (cell_again laws S k table there V j cell at).0)
 
 pub overlaps_alike : Laws → OverlapsAlike
 overlaps_alike laws S k table there ms are = overlaps laws S k table there ms are

@@ -28,6 +28,7 @@ pub mod NamingLemmas
 pub mod NumberLemmas
 pub mod ObligedLemmas
 pub mod OverLemmas
+pub mod OverlapLemmas
 pub mod PartAlikeLemmas
 pub mod PartGood
 pub mod ReadLemmas

@@ -34,7 +34,7 @@ use Rattle.ft_claims.proofs.TableLemmas.{gap_counts, overlap_counts}
 none_of : (n : ℕ) → not (nat_le 1 n) ≡ true → n ≡ 0
 none_of n h = grind (arith, h)
 
-two_of : (n : ℕ) → nat_le 2 n ≡ true → 2 ≤ n
+pub two_of : (n : ℕ) → nat_le 2 n ≡ true → 2 ≤ n
 two_of n h = grind (arith, h)
 
 of_two : (n : ℕ) → 2 ≤ n → nat_le 2 n ≡ true

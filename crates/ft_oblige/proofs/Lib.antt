@@ -2,3 +2,4 @@ pub mod NumberLemmas
 pub mod OneLemmas
 pub mod PartLemmas
 pub mod SpanLemmas
+pub mod TriedLemmas

@@ -3,3 +3,4 @@ pub mod Blocks
 pub mod Linked
 pub mod Obligations
 pub mod States
+pub mod Tried

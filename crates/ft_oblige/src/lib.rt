@@ -3,6 +3,8 @@
 
 mod number_law;
 mod part_law;
+mod trying;
 
 pub use number_law::number_laws;
 pub use part_law::part_laws;
+pub use trying::{Tried, try_formula};

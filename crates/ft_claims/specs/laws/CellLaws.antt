@@ -64,6 +64,12 @@ RangesAlike = (S : Tables) (k : ℕ) (table : Table) → slice_get S.tables k �
 abbrev pub OverlapHasTwo : Type 0
 OverlapHasTwo = (S : Tables) (grid : Grid) (V : View) → Shows S overlap grid V → 2 ≤ length (holding V (cells grid))
 
+-- the first two of them, by rows, are for one variable
+abbrev pub OverlapIsOfOne : Type 0
+OverlapIsOfOne = (S : Tables) (k : ℕ) (table : Table) → slice_get S.tables k ≡ Some table → (V : View) → Shows S overlap table.grid V
+    → (c d : Cell) → slice_get (holding V (cells table.grid)) 0 ≡ Some c → slice_get (holding V (cells table.grid)) 1 ≡ Some d
+    → c.target ≡ d.target
+
 -- and one is out of range where that is the fault
 abbrev pub RangeHasOne : Type 0
 RangeHasOne = (S : Tables) (grid : Grid) (V : View) → OutOfRange S grid V → 1 ≤ length (filter (is_beyond S V) (cells grid))
