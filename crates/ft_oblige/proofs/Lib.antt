@@ -4,3 +4,4 @@ pub mod NumberLemmas
 pub mod OneLemmas
 pub mod PartLemmas
 pub mod SpanLemmas
+pub mod TriedLemmas

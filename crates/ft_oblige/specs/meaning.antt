@@ -4,3 +4,4 @@ pub mod Linked
 pub mod Lists
 pub mod Obligations
 pub mod States
+pub mod Tried

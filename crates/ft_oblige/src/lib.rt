@@ -4,7 +4,9 @@
 mod list_law;
 mod number_law;
 mod part_law;
+mod trying;
 
 pub use list_law::list_part_laws;
 pub use number_law::number_laws;
 pub use part_law::part_laws;
+pub use trying::{Tried, try_formula};
