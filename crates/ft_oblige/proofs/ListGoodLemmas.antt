@@ -1,5 +1,6 @@
 -- The parts of the formulas of lists have names of their scans, and positive divisors.
-use Rattle.std.proofs.Common.{◌≡◌, ◌∙◌, sym, ap, refl, ℕ, zero, suc, ◌+◌, ◌-◌, ◌*◌, ◌<◌, ◌≤◌, Bool, true, false, cond, List, ◌++◌, map, length}
+use Rattle.std.proofs.Common.{◌≡◌, ◌∙◌, sym, ap, refl, ℕ, zero, suc, ◌+◌, ◌-◌, ◌*◌, ◌<◌, ◌≤◌, Bool, true, false, cond, List, ◌++◌, map}
+use Rattle.std.proofs.Common.{length}
 use Rattle.std.proofs.Common.{slice_get, [], Option, None, Some, arith, ⊎_elim}
 use Rattle.std.specs.List.{Contains, list_all, range_with_len}
 use Rattle.std.proofs.lemmas.Bool.{and_from, cases_lt}
@@ -33,7 +34,8 @@ use Rattle.ft_oblige.proofs.PartLemmas.{clauses_good, clauses_sized}
 rolled : (base : ℕ) (c : Claim) (a_layer : Claim-F Claim) → roll-Claim a_layer ≡ c → collected base c
     ≡ layer_collected base (map-Claim Claim Collected (collected base) a_layer)
 unfolding collected
-rolled base c a_layer is = ap (fold-Claim Collected (layer_collected base)) (sym is) ∙ fold-roll-Claim Collected (layer_collected base) a_layer
+rolled base c a_layer is = ap (fold-Claim Collected (layer_collected base)) (sym is)
+    ∙ fold-roll-Claim Collected (layer_collected base) a_layer
 
 -- a choice of claims that are good is good
 or_good : (base : ℕ) (cs : List Claim) → list_all (λ c. (collected base c).good) cs ≡ true → (collected base (Or cs)).good ≡ true
@@ -79,7 +81,8 @@ module _ (goods : Goods) (S : Tables) (n t : ℕ) (inside : t < n) where
       always_good = clauses_good goods S (list_frame S t) base below S.always always_there (clauses_sized S).1
 
       clauses_of : (b : Bool)
-          → list_all good (cond b (clauses_at S t S.first ++ clauses_at S t S.always) (clauses_at S t S.always ++ clauses_at S t S.step)) ≡ true
+          → list_all good (cond b (clauses_at S t S.first ++ clauses_at S t S.always)
+          (clauses_at S t S.always ++ clauses_at S t S.step)) ≡ true
       clauses_of true = both_lists good (clauses_at S t S.first) (clauses_at S t S.always)
           (clauses_good goods S (list_frame S t) base below S.first first_there (clauses_sized S).0) always_good
       clauses_of false = both_lists good (clauses_at S t S.always) (clauses_at S t S.step) always_good

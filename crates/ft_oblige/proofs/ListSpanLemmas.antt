@@ -29,7 +29,8 @@ module _ (S : Tables) where
       omega (arith, both, rest, one, more)
 
   -- a name of scan t stands after those of the scans before
-  pub at-scan : (n t i : ℕ) (s : ℤ × ℤ) → t < n → slice_get (scan_spans S) i ≡ Some s → slice_get (list_spans S n) (t * width S + i) ≡ Some s
+  pub at-scan : (n t i : ℕ) (s : ℤ × ℤ) → t < n → slice_get (scan_spans S) i ≡ Some s
+      → slice_get (list_spans S n) (t * width S + i) ≡ Some s
   at-scan zero t i s l is = absurd (omega (arith, l))
   at-scan (suc n) t i s l is = ⊎_elim
       (λ less. on-left (list_spans S n) (scan_spans S) (t * width S + i) s (at-scan n t i s less is))

@@ -107,7 +107,8 @@ module _ (goods : Goods) (S : Tables) (frame : Frame) (base : ℕ) (below : IsBe
       one b f block (Goal x) j c it is = absurd (none-some c is)
 
 -- the clauses of each of the three lists are sized
-pub clauses_sized : (S : Tables) → (list_all (is_sized S.vars S.memories) S.first ≡ true) × (list_all (is_sized S.vars S.memories) S.always ≡ true)
+pub clauses_sized : (S : Tables) → (list_all (is_sized S.vars S.memories) S.first ≡ true)
+    × (list_all (is_sized S.vars S.memories) S.always ≡ true)
     × (list_all (is_sized S.vars S.memories) S.step ≡ true)
 clauses_sized S =
     let test = is_sized S.vars S.memories in

@@ -64,7 +64,8 @@ mapped-at f (x ∷ xs) zero a e = ap (λ y. Some (f y)) (same_Some x a e)
 mapped-at f (x ∷ xs) (suc i) a e = mapped-at f xs i a e
 
 -- an element of the second of two lists
-pub on-right : {X : Type 0} (xs ys : List X) (i j : ℕ) (x : X) → i ≡ length xs + j → slice_get ys j ≡ Some x → slice_get (xs ++ ys) i ≡ Some x
+pub on-right : {X : Type 0} (xs ys : List X) (i j : ℕ) (x : X) → i ≡ length xs + j → slice_get ys j ≡ Some x
+    → slice_get (xs ++ ys) i ≡ Some x
 on-right [] ys i j x e is = let same : i ≡ j = omega (arith, e) in subst (λ (k : ℕ). slice_get ys k ≡ Some x) (sym same) is
 on-right (a ∷ xs) ys zero j x e is = absurd (omega (arith, e))
 on-right (a ∷ xs) ys (suc i) j x e is = on-right xs ys i j x (omega (arith, e)) is

@@ -52,7 +52,8 @@ module _ (S : Tables) (σ : ℕ → ℤ) where
       → ((x : ℕ) (v : Var) → IsVar S (defined_kinds section) x v → claim_true σ (definition S section (list_frame S t) x) ≡ true)
       → list_all (claim_true σ) (definitions_at S section t) ≡ true
   section_into section t met = every_image p (definition S section (list_frame S t)) (defined_places S section) (λ k x at.
-      let v = var_of S (defined_kinds section) x (of_filter (is_of S.vars (defined_kinds section)) (range_with_len 0 (length S.vars)) k x at) in
+      let v = var_of S (defined_kinds section) x (of_filter (is_of S.vars (defined_kinds section))
+      (range_with_len 0 (length S.vars)) k x at) in
       met x v.0 v.1)
 
   -- moves at a scan
@@ -66,7 +67,8 @@ module _ (S : Tables) (σ : ℕ → ℤ) where
       (omega arith) (omega (arith, low))
 
   moves_into : (t : ℕ)
-      → ((m : ℕ) (memory : tables.Memory) → slice_get S.memories m ≡ Some memory → claim_true σ (move_of S (list_frame S t) m (Some memory)) ≡ true)
+      → ((m : ℕ) (memory : tables.Memory) → slice_get S.memories m ≡ Some memory
+      → claim_true σ (move_of S (list_frame S t) m (Some memory)) ≡ true)
       → list_all (claim_true σ) (moves_at S t) ≡ true
   moves_into t met = every_image p (λ k. move_of S (list_frame S t) k (slice_get S.memories k)) (range_with_len 0 (length S.memories))
       (λ k m at. one m (slice_get S.memories m) refl)
@@ -125,7 +127,8 @@ module _ (S : Tables) (σ : ℕ → ℤ) where
   nat_into n met = every_scan p (nat_claims S) n met
 
   -- a difference
-  pub differs_from : (k : ℕ) → claim_true σ (differs_at S k) ≡ true → list_all (claim_true σ) (by_scan (definitions_at S section.Out) k) ≡ true
+  pub differs_from : (k : ℕ) → claim_true σ (differs_at S k) ≡ true
+      → list_all (claim_true σ) (by_scan (definitions_at S section.Out) k) ≡ true
       → MeetsDifference S k σ
   differs_from k differs outs =
       let denied = λ (x : ℕ). Not (definition S section.Out (list_frame S k) x) in
@@ -145,7 +148,8 @@ module _ (S : Tables) (σ : ℕ → ℤ) where
       let denied = λ (x : ℕ). Not (definition S section.Out (list_frame S k) x) in
       let low = slice_get_within S.vars d.variable d.declared d.is_controlled.0 in
       true-Or σ (map denied (defined_places S section.Out)) ∙ list_any-map p denied (defined_places S section.Out)
-      ∙ any_chosen (λ x. claim_true σ (Not (definition S section.Out (list_frame S k) x))) (is_of S.vars controlled) 0 (length S.vars) d.variable
+      ∙ any_chosen (λ x. claim_true σ (Not (definition S section.Out (list_frame S k) x))) (is_of S.vars controlled)
+      0 (length S.vars) d.variable
       (omega arith) (omega (arith, low)) (is_one S controlled d.variable d.declared d.is_controlled)
       (true-Not σ (definition S section.Out (list_frame S k) d.variable) ∙ ap not d.differs)
 
@@ -167,5 +171,6 @@ module _ (S : Tables) (σ : ℕ → ℤ) where
   pub difference_into : (n : ℕ) → MeetsScans S n σ → MeetsDifference S (n - 1) σ → list_all (claim_true σ) (difference_parts S n) ≡ true
   difference_into n met d = and_from _ _ (differs_into (n - 1) d)
       (both_lists p _ (list_parts S n)
-      (both_lists p (by_scan (definitions_at S section.Out) (n - 1)) (by_scan (sides_at S) n) (outs_into (n - 1) d.same_before) (meets_into n met))
+      (both_lists p (by_scan (definitions_at S section.Out) (n - 1)) (by_scan (sides_at S) n) (outs_into (n - 1) d.same_before)
+      (meets_into n met))
       (nat_into n met.clauses))

@@ -53,7 +53,8 @@ points_have_lists laws S n parts p some point =
               (spans.values t x v (omega (arith, l, long)) is.0);
         };
       },
-      (λ t x v l is has. at.2 (t * width S + x) (name_low laws S n t x l (slice_get_within S.vars x v is.0)) has ∙ sym (rows.1.tells t x v l is)),
+      (λ t x v l is has. at.2 (t * width S + x) (name_low laws S n t x l (slice_get_within S.vars x v is.0)) has
+          ∙ sym (rows.1.tells t x v l is)),
     )
 
 -- the values of a point at the names that the formula has, and of a list at all others
@@ -82,7 +83,8 @@ module _ (laws : Laws) (S : Tables) (n : ℕ) (parts : List Claim) (p : List ℤ
 
   pub mixed_gives : Gives (list_spans S n) parts p mixed
   unfolding mixed
-  mixed_gives u l uses = told.2 u l uses ∙ sym (cond-true (is_used (length (list_spans S n)) parts u) (told.0 u) (list_state S of_list u) uses)
+  mixed_gives u l uses = told.2 u l uses ∙ sym (cond-true (is_used (length (list_spans S n)) parts u) (told.0 u)
+      (list_state S of_list u) uses)
 
   pub mixed_tells : (t x : ℕ) (v : Var) → t < n → IsVar S monitored x v → reading_by S mixed t x ≡ reading_of S monitored h t x
   unfolding mixed
@@ -161,7 +163,8 @@ differences_have_points laws S proper n some = (
       let d = list.2 in
       let σ = list_state S (joint S d.r d.s) in
       let met = differs_meets laws S proper list.0 (n - 1) d in
-      let scans : MeetsScans S n (list_state S (joint S d.r d.s)) = subst (λ k. MeetsScans S k (list_state S (joint S d.r d.s))) list.1 met.0 in (
+      let scans : MeetsScans S n (list_state S (joint S d.r d.s)) =
+      subst (λ k. MeetsScans S k (list_state S (joint S d.r d.s))) list.1 met.0 in (
         _,
         laws.numbers_make_points (list_spans S n) (difference_parts S n) (laws.differences_good S n some) σ
             ((laws.lists_are_spans S n σ).0 scans.spans) (difference_into S σ n scans met.1),

@@ -109,7 +109,8 @@ module _ (laws : Laws) (S : Tables) (ρ : Reading) where
       laws.moves_say S (list_frame S t) σ m memory (kept_in_span (scan_before t) m memory is) (kept_in_span t m memory is)
       ∙ (λ i. moves S (first_begins laws S ρ t i) (view S (list_frame S t) σ) memory (roll_kept (scan_before t) m l i) (roll_kept t m l i))
       ∙ moves_read laws S (view S (list_frame S t) σ) (look S ρ t) memory
-      (λ r k. roll_same t r (side_there S (side_of memory) r (S.sound.memories_read m memory r is k))) (begins S ρ t) (kept S ρ (scan_before t) m)
+      (λ r k. roll_same t r (side_there S (side_of memory) r (S.sound.memories_read m memory r is k))) (begins S ρ t)
+      (kept S ρ (scan_before t) m)
       (kept S ρ t m)
       ∙ (laws.memories_move S ρ m memory is t).comes
 
@@ -175,7 +176,8 @@ differs_meets laws S proper h k d =
         same_before = λ t y u l on.
             let inside : t < length h = let far = d.in_list in omega (arith, l, far) in
             roll_defined laws S ρ section.Out t y (slice_get_within S.vars y u on.0)
-            ∙ ap (defined S section.Out (look S ρ t) y) (reads.as_required t y u inside (on.0, of_controlled y u on.1) ∙ d.same_before t l y u on)
+            ∙ ap (defined S section.Out (look S ρ t) y) (reads.as_required t y u inside (on.0, of_controlled y u on.1)
+            ∙ d.same_before t l y u on)
             ∙ reads.gives d.c d.runs.outputs.is t y u inside on;
         variable = d.variable;
         declared = d.declared;

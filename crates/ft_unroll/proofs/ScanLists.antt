@@ -56,7 +56,8 @@ any_chosen p q from (suc n) x low high is holds = ⊎_elim
     (cases_lt from x)
   where
     here : q from ≡ true → p from ≡ true → list_any p (filter q (range_with_len from (suc n))) ≡ true
-    here yes_it ok = ap (list_any p) (cond-true (q from) (from ∷ filter q (range_with_len (from + 1) n)) (filter q (range_with_len (from + 1) n)) yes_it)
+    here yes_it ok = ap (list_any p)
+        (cond-true (q from) (from ∷ filter q (range_with_len (from + 1) n)) (filter q (range_with_len (from + 1) n)) yes_it)
         ∙ or_left (p from) (list_any p (filter q (range_with_len (from + 1) n))) ok
 
     later : list_any p (filter q (range_with_len (from + 1) n)) ≡ true → (q from ≡ true) ⊎ (q from ≡ false)
@@ -70,7 +71,8 @@ any_chosen p q from (suc n) x low high is holds = ⊎_elim
         of
 
 -- where some element passes there is one
-pub some_passes : {A : Type 0} (p : A → Bool) (xs : List A) → list_any p xs ≡ true → (k : ℕ) × (a : A) × (slice_get xs k ≡ Some a) × (p a ≡ true)
+pub some_passes : {A : Type 0} (p : A → Bool) (xs : List A) → list_any p xs ≡ true
+    → (k : ℕ) × (a : A) × (slice_get xs k ≡ Some a) × (p a ≡ true)
 some_passes p [] h = absurd (true≢false (sym h))
 some_passes {A = A} p (x ∷ xs) h = ⊎_elim
     (λ here. (zero, x, refl, here))

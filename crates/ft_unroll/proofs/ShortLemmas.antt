@@ -8,7 +8,8 @@ use Rattle.ft_unroll.specs.laws.ShortLaws.{AllowedOneLess, DiffersAtLast, Closed
 use Rattle.ft_unroll.proofs.PointLemmas.{differences_have_points}
 
 pub allowed_one_less : Laws → AllowedOneLess
-allowed_one_less laws S h n some long allowed = (take n h, length-take-le n h (omega (arith, long)), laws.allowed_shorter S h n some allowed)
+allowed_one_less laws S h n some long allowed =
+    (take n h, length-take-le n h (omega (arith, long)), laws.allowed_shorter S h n some allowed)
 
 pub differs_at_last : Laws → DiffersAtLast
 differs_at_last laws S proper h k d =

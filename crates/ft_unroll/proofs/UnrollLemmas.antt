@@ -50,7 +50,8 @@ module _ (laws : Laws) (S : Tables) (σ : ℕ → ℤ) where
       let W = look S (reading_by S σ) t in
       let inside : list_all (λ c. claim_true σ (claim_of S (list_frame S t) c)) conds ≡ true =
       sym (list_all-map (claim_true σ) (claim_of S (list_frame S t)) conds) ∙ all in
-      every (truth W) conds (λ k c at. sym (laws.conditions_say S (list_frame S t) σ c ∙ laws.same_truth V W c (λ r here. reads k c r at here))
+      every (truth W) conds (λ k c at. sym (laws.conditions_say S (list_frame S t) σ c
+      ∙ laws.same_truth V W c (λ r here. reads k c r at here))
       ∙ at_place (λ d. claim_true σ (claim_of S (list_frame S t) d)) conds inside k c at)
 
   -- the environment's clauses
@@ -65,7 +66,8 @@ module _ (laws : Laws) (S : Tables) (σ : ℕ → ℤ) where
           (λ k c r at here. clause_same laws S σ t monitored r (now_is_step S monitored r (S.sound.always_reads k c r at here)))
 
       of_moment : (b : Bool)
-          → list_all (claim_true σ) (cond b (clauses_at S t S.first ++ clauses_at S t S.always) (clauses_at S t S.always ++ clauses_at S t S.step))
+          → list_all (claim_true σ) (cond b (clauses_at S t S.first ++ clauses_at S t S.always)
+          (clauses_at S t S.always ++ clauses_at S t S.step))
           ≡ true → b ≡ begins S (reading_by S σ) t → nat_at S (reading_by S σ) t ≡ true
       of_moment true all is =
           let both = and_parts _ _ (sym (list_all-append (claim_true σ) (clauses_at S t S.first) (clauses_at S t S.always)) ∙ all) in
@@ -121,8 +123,10 @@ module _ (laws : Laws) (S : Tables) (n : ℕ) (σ : ℕ → ℤ) (met : MeetsSca
         let move = sym (laws.moves_say S (list_frame S t) σ m memory (met.spans.kept (scan_before t) m memory (scan_before_inside n t l) is)
         kept_now) ∙ met.moved t m memory l is in
         let seen = sym (moves_read laws S V (look S ρ t) memory (read_same t k m memory is below low) (is_first t) last now) ∙ move in
-        let by_kept = sym (moves_from S (is_first t) (look S ρ t) memory last (kept S ρ (scan_before t) m) now (λ e. past e m memory is)) ∙ seen in
-        let by_begins = ap (λ b. moves S b (look S ρ t) memory (kept S ρ (scan_before t) m) now) (sym (first_begins laws S ρ t)) ∙ by_kept in
+        let by_kept = sym (moves_from S (is_first t) (look S ρ t) memory last (kept S ρ (scan_before t) m) now
+        (λ e. past e m memory is)) ∙ seen in
+        let by_begins = ap (λ b. moves S b (look S ρ t) memory (kept S ρ (scan_before t) m) now) (sym (first_begins laws S ρ t))
+        ∙ by_kept in
         (laws.memories_move S ρ m memory is t).alone now (may_keep memory now kept_now) by_begins
 
     all_below : (t : ℕ) → t < n → (is_first t ≡ false → AllKept (scan_before t)) → (k : ℕ) → Below t k
@@ -151,7 +155,8 @@ module _ (laws : Laws) (S : Tables) (n : ℕ) (σ : ℕ → ℤ) (met : MeetsSca
       → claim_true σ (definition S section (list_frame S t) x) ≡ defined S section (look S (reading_by S σ) t) x (reading_by S σ t x)
   list_defined section t x l =
       laws.definitions_say S (list_frame S t) σ section x
-      ∙ defined_alike laws S (view S (list_frame S t) σ) (look S ρ t) section x (ρ t x) (λ r may. list_same t l r (may_there S section r may))
+      ∙ defined_alike laws S (view S (list_frame S t) σ) (look S ρ t) section x (ρ t x)
+      (λ r may. list_same t l r (may_there S section r may))
 
   -- and are a whole reading
   pub list_whole : IsWhole S n (reading_by S σ)
