@@ -35,7 +35,7 @@ module _ (pc : Cond → Bool) (pt : Term → Bool) where
       let ks = and_parts (pc c) (list_all pc cs) k in let ls = and_parts (pt e) (list_all pt es) l in
       and_from _ _ (and_from _ _ (and_from _ _ ks.0 refl) ls.0) (bare-ok (n + 1) i target cs es ks.1 ls.1)
 
-  normal-ok : (n target : ℕ) (columns rows : List Cond) (terms : List (List Term)) → list_all pc columns ≡ true → list_all pc rows ≡ true
+  pub normal-ok : (n target : ℕ) (columns rows : List Cond) (terms : List (List Term)) → list_all pc columns ≡ true → list_all pc rows ≡ true
       → list_all (list_all pt) terms ≡ true
       → list_all CellOk (flat_map (λ r. row_cells r.0 target (zip (map (λ column. r.1.0 ∷ column ∷ []) columns) r.1.1))
       (enumerate_from n (zip rows terms))) ≡ true
@@ -46,7 +46,7 @@ module _ (pc : Cond → Bool) (pt : Term → Bool) where
       both_lists CellOk (row_cells n target (zip (map (λ column. r ∷ column ∷ []) columns) es)) _
       (row-ok 0 n target r columns es ks.0 h ls.0) (normal-ok (n + 1) target columns rows terms h ks.1 ls.1)
 
-  inverted-ok : (n target : ℕ) (terms : List Term) (rows : List Cond) (grid : List (List Cond)) → list_all pt terms ≡ true
+  pub inverted-ok : (n target : ℕ) (terms : List Term) (rows : List Cond) (grid : List (List Cond)) → list_all pt terms ≡ true
       → list_all pc rows ≡ true → list_all (list_all pc) grid ≡ true
       → list_all CellOk (flat_map (λ r. row_cells r.0 target (zip (map (λ entry. r.1.0 ∷ entry ∷ []) r.1.1) terms))
       (enumerate_from n (zip rows grid))) ≡ true
@@ -57,7 +57,7 @@ module _ (pc : Cond → Bool) (pt : Term → Bool) where
       both_lists CellOk (row_cells n target (zip (map (λ entry. r ∷ entry ∷ []) cs) terms)) _ (row-ok 0 n target r cs terms ks.0 ls.0 h)
       (inverted-ok (n + 1) target terms rows grid h ks.1 ls.1)
 
-  vector-ok : (n : ℕ) (columns : List Cond) (targets : List ℕ) (terms : List (List Term)) → list_all pc columns ≡ true
+  pub vector-ok : (n : ℕ) (columns : List Cond) (targets : List ℕ) (terms : List (List Term)) → list_all pc columns ≡ true
       → list_all (list_all pt) terms ≡ true
       → list_all CellOk (flat_map (λ r. row_cells r.0 r.1.0 (zip (map (λ column. column ∷ []) columns) r.1.1))
       (enumerate_from n (zip targets terms))) ≡ true

@@ -304,7 +304,7 @@ module _ (S : Tables) (frame : Frame) (σ : ℕ → ℤ) where
   is_outside None cell = false
   is_outside (Some v) cell = cell_holds V cell && (int_lt (value V cell.term) v.range.0 || int_lt v.range.1 (value V cell.term))
 
-  outside-says : (o : Option Var) (cell : Cell) → claim_true σ (outside S frame o cell) ≡ is_outside o cell
+  pub outside-says : (o : Option Var) (cell : Cell) → claim_true σ (outside S frame o cell) ≡ is_outside o cell
   outside-says None cell = true-Or σ []
   outside-says (Some v) cell =
       let below = true-Lt σ (sym_of S frame cell.term) (Num v.range.0)

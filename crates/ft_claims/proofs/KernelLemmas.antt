@@ -186,7 +186,7 @@ module _ (base : ℕ) (T : Entries) where
       let gs = and_parts (gathered base a).good (gathered base b).good good in
       minus-in Low ((gathered base a).form T) ((gathered base b).form T) (form_low base T a hs.0 gs.0) (form_low base T b hs.1 gs.1)
 
-  low_claim : (c : Claim) → IsLowClaim c (collected base c)
+  pub low_claim : (c : Claim) → IsLowClaim c (collected base c)
   low_claim = claim_induction (λ c. IsLowClaim c (collected base c)) (record {
     le = λ a b. subst (IsLowClaim (Le a b)) (sym (collected-rolled base _ (layer.Le a b) (rolls-Le-claim a b)))
         (λ has good. subst (AllOf Low) (sym (unknowns-Le (minus ((gathered base a).form T) ((gathered base b).form T))))

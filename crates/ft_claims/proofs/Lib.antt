@@ -1,6 +1,7 @@
 pub mod AreaLemmas
 pub mod Arithmetic
 pub mod BeginLemmas
+pub mod CellAlikeLemmas
 pub mod CellTests
 pub mod ClaimLemmas
 pub mod CollectingLemmas
@@ -13,6 +14,7 @@ pub mod FormLemmas
 pub mod FormulaLemmas
 pub mod GatherLemmas
 pub mod GoodLemmas
+pub mod KeptLemmas
 pub mod KernelLemmas
 pub mod LinkLemmas
 pub mod Lists
@@ -26,6 +28,8 @@ pub mod NamingLemmas
 pub mod NumberLemmas
 pub mod ObligedLemmas
 pub mod OverLemmas
+pub mod OverlapLemmas
+pub mod PartAlikeLemmas
 pub mod PartGood
 pub mod ReadLemmas
 pub mod ReadsThere

@@ -75,7 +75,7 @@ module _ (ρ : ℕ → ℕ) (x : ℕ → ℤ) where
         ∙ (renumbered-parts parts).1 ∙ sym (raw-Or (λ u. x (ρ u)) (bare_raw parts));
   })
 
-is-itself : (u : ℕ) → (u == u) ≡ true
+pub is-itself : (u : ℕ) → (u == u) ≡ true
 is-itself u = (Decides-eqb u u).1 refl
 
 -- what stands in a list is one of it
@@ -94,7 +94,7 @@ all-both : (P Q R : ℕ → Type 0) (fs : List Factor) → ((u : ℕ) → P u �
 all-both P Q R [] h p q = tt
 all-both P Q R (f ∷ fs) h p q = (h f.0 p.0 q.0, all-both P Q R fs h p.1 q.1)
 
-both-of : (P Q R : ℕ → Type 0) (us : List ℕ) → ((u : ℕ) → P u → Q u → R u) → AllOf P us → AllOf Q us → AllOf R us
+pub both-of : (P Q R : ℕ → Type 0) (us : List ℕ) → ((u : ℕ) → P u → Q u → R u) → AllOf P us → AllOf Q us → AllOf R us
 both-of P Q R [] h p q = tt
 both-of P Q R (u ∷ us) h p q = (h u p.0 q.0, both-of P Q R us h p.1 q.1)
 
@@ -252,11 +252,11 @@ module _ (spans : Spans) (parts : List Claim) (good : list_all (λ (g : Collecte
     abbrev IsNamed : ℕ → Type 0
     IsNamed u = is_used base parts u ≡ true
 
-    raws_named : AllOf IsNamed (flat_map unknowns_of raws)
+    pub raws_named : AllOf IsNamed (flat_map unknowns_of raws)
     raws_named = all-of-weaker (λ u. is_one_of (flat_map unknowns_of raws) u ≡ true) IsNamed (flat_map unknowns_of raws)
         (λ u is. or_left _ _ (or_left _ _ is)) (all-self (flat_map unknowns_of raws) (flat_map unknowns_of raws) (λ u is. is))
 
-    pairs_named : (d : ℕ) (e : Entry) → slice_get T d ≡ Some e → AllIn IsNamed e.0.factors
+    pub pairs_named : (d : ℕ) (e : Entry) → slice_get T d ≡ Some e → AllIn IsNamed e.0.factors
     pairs_named d e is = all-weaker (λ u. is_one_of (pair_unknowns T) u ≡ true) IsNamed e.0.factors
         (λ u one. or_left _ _ (or_right _ _ one))
         (pair-self T d e is)

@@ -32,7 +32,7 @@ long_rows n (r ∷ rows) h =
     let both = and_parts (length r == n) (list_all (λ row. length row == n) rows) h in
     (eqb-true (length r) n both.0, long_rows n rows both.1)
 
-full-parts : {X : Type 0} (r c : ℕ) (grid : List (List X)) → is_full r c grid ≡ true → (length grid ≡ r)
+pub full-parts : {X : Type 0} (r c : ℕ) (grid : List (List X)) → is_full r c grid ≡ true → (length grid ≡ r)
     × (list_all (λ row. length row == c) grid ≡ true)
 full-parts r c grid h =
     let l = last-two (nat_lt 0 r) (nat_lt 0 c) (length grid == r) (list_all (λ row. length row == c) grid) h in

@@ -34,7 +34,7 @@ use Rattle.ft_claims.proofs.TableLemmas.{gap_counts, overlap_counts}
 none_of : (n : ℕ) → not (nat_le 1 n) ≡ true → n ≡ 0
 none_of n h = grind (arith, h)
 
-two_of : (n : ℕ) → nat_le 2 n ≡ true → 2 ≤ n
+pub two_of : (n : ℕ) → nat_le 2 n ≡ true → 2 ≤ n
 two_of n h = grind (arith, h)
 
 of_two : (n : ℕ) → 2 ≤ n → nat_le 2 n ≡ true
@@ -47,7 +47,7 @@ is_out r z h w = grind (arith, ints, h, w.0, w.1)
 is_in : (r : ℤ × ℤ) (z : ℤ) → (int_lt z r.0 || int_lt r.1 z) ≡ false → IsWithin r z
 is_in r z h = (grind (arith, ints, h), grind (arith, ints, h))
 
-out_by : (r : ℤ × ℤ) (z : ℤ) → (IsWithin r z → ⊥) → (int_lt z r.0 || int_lt r.1 z) ≡ true
+pub out_by : (r : ℤ × ℤ) (z : ℤ) → (IsWithin r z → ⊥) → (int_lt z r.0 || int_lt r.1 z) ≡ true
 out_by r z h = ⊎_elim (λ is. is) (λ isnt. absurd (h (is_in r z isnt))) (cases_Bool (int_lt z r.0 || int_lt r.1 z))
 
 module _ (S : Tables) (k : ℕ) (table : Table) (there : slice_get S.tables k ≡ Some table) where

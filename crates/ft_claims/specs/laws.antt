@@ -1,3 +1,4 @@
+pub mod CellLaws
 pub mod ClaimLaws
 pub mod CoverLaws
 pub mod Equations

@@ -1,6 +1,7 @@
 //! What the obligations of a set claim, and their formulas.
 #![tactic(auto)]
 
+mod cells;
 mod claim;
 mod claims;
 mod copying;
@@ -21,6 +22,7 @@ mod terms;
 mod values;
 mod wholes;
 
+pub use cells::cell_laws;
 pub use claim::{Claim, Sym};
 pub use claims::{claim_of, denied, equal, is_one, pair};
 pub use copying::{copies_of_claims, copy_of_claim};

@@ -1,4 +1,7 @@
+pub mod ListGoodLemmas
+pub mod ListSpanLemmas
 pub mod NumberLemmas
 pub mod OneLemmas
 pub mod PartLemmas
 pub mod SpanLemmas
+pub mod TriedLemmas

@@ -38,7 +38,7 @@ module _ (goods : Goods) (S : Tables) (frame : Frame) (base : ℕ) (below : IsBe
   abbrev good : Claim → Bool
   good c = (collected base c).good
 
-  clauses_good : (conds : List Cond)
+  pub clauses_good : (conds : List Cond)
       → ((k : ℕ) (c : Cond) (r : Read) → slice_get conds k ≡ Some c → Contains (cond_reads c) r → IsThere S r)
       → list_all (is_sized S.vars S.memories) conds ≡ true → list_all good (map (claim_of S frame) conds) ≡ true
   clauses_good conds reads sized = every_image good (claim_of S frame) conds (λ k c at.
@@ -106,6 +106,17 @@ module _ (goods : Goods) (S : Tables) (frame : Frame) (base : ℕ) (below : IsBe
       one b f block (Invariant name d) (suc j) c it is = absurd (none-some c is)
       one b f block (Goal x) j c it is = absurd (none-some c is)
 
+-- the clauses of each of the three lists are sized
+pub clauses_sized : (S : Tables) → (list_all (is_sized S.vars S.memories) S.first ≡ true)
+    × (list_all (is_sized S.vars S.memories) S.always ≡ true)
+    × (list_all (is_sized S.vars S.memories) S.step ≡ true)
+clauses_sized S =
+    let test = is_sized S.vars S.memories in
+    let both = and_parts (list_all test (S.first ++ S.always)) (list_all test S.step)
+    (sym (list_all-append test (S.first ++ S.always) S.step) ∙ S.sound.sized_clauses) in
+    let front = and_parts (list_all test S.first) (list_all test S.always) (sym (list_all-append test S.first S.always) ∙ both.0) in
+    (front.0, front.1, both.1)
+
 module _ (goods : Goods) (S : Tables) (base : ℕ) (room : width S + width S ≤ base) where
   abbrev good_at : Claim → Bool
   good_at c = (collected base c).good
@@ -115,15 +126,6 @@ module _ (goods : Goods) (S : Tables) (base : ℕ) (room : width S + width S ≤
 
   there_past : IsBelow S (past_frame S) base
   there_past = record { this = room; prior = room }
-
-  sized_of : (list_all (is_sized S.vars S.memories) S.first ≡ true) × (list_all (is_sized S.vars S.memories) S.always ≡ true)
-      × (list_all (is_sized S.vars S.memories) S.step ≡ true)
-  sized_of =
-      let test = is_sized S.vars S.memories in
-      let both = and_parts (list_all test (S.first ++ S.always)) (list_all test S.step)
-      (sym (list_all-append test (S.first ++ S.always) S.step) ∙ S.sound.sized_clauses) in
-      let front = and_parts (list_all test S.first) (list_all test S.always) (sym (list_all-append test S.first S.always) ∙ both.0) in
-      (front.0, front.1, both.1)
 
   own_good : (b f : ℕ) (block : Block) (fact : Fact) (anew : Bool) → IsFactAt S b f block fact
       → list_all good_at (own S anew block fact) ≡ true
@@ -139,9 +141,9 @@ module _ (goods : Goods) (S : Tables) (base : ℕ) (room : width S + width S ≤
       let now = now_frame S true in
       both_lists good_at _ _ (both_lists good_at _ _ (inputs_good goods S now base (here true))
       (clauses_good goods S now base (here true) S.first
-      (λ k c r at it. there S r (now_there S monitored r (S.sound.first_reads k c r at it))) sized_of.0))
+      (λ k c r at it. there S r (now_there S monitored r (S.sound.first_reads k c r at it))) (clauses_sized S).0))
       (clauses_good goods S now base (here true) S.always
-      (λ k c r at it. there S r (now_there S monitored r (S.sound.always_reads k c r at it))) sized_of.1)
+      (λ k c r at it. there S r (now_there S monitored r (S.sound.always_reads k c r at it))) (clauses_sized S).1)
   others_good false =
       let now = now_frame S false in let past = past_frame S in
       let always : (k : ℕ) (c : Cond) (r : Read) → slice_get S.always k ≡ Some c → Contains (cond_reads c) r → IsThere S r =
@@ -149,10 +151,10 @@ module _ (goods : Goods) (S : Tables) (base : ℕ) (room : width S + width S ≤
       both_lists good_at _ _ (both_lists good_at _ _ (both_lists good_at _ _ (both_lists good_at _ _ (both_lists good_at _ _
       (invariants_good goods S past base there_past) (inputs_good goods S now base (here false)))
       (inputs_good goods S past base there_past))
-      (clauses_good goods S now base (here false) S.always always sized_of.1))
-      (clauses_good goods S past base there_past S.always always sized_of.1))
+      (clauses_good goods S now base (here false) S.always always (clauses_sized S).1))
+      (clauses_good goods S past base there_past S.always always (clauses_sized S).1))
       (clauses_good goods S now base (here false) S.step (λ k c r at it. step_there S monitored r (S.sound.step_reads k c r at it))
-      sized_of.2)
+      (clauses_sized S).2)
 
 pub parts_good : Goods → PartsAreGood
 parts_good goods S b f block fact is anew marks =

@@ -25,7 +25,7 @@ of-append [] ys i x is = inr (i, omega arith, is)
 of-append (a ∷ xs) ys zero x is = inl is
 of-append (a ∷ xs) ys (suc i) x is = elim (of-append xs ys i x is) [ inl h ↦ inl h | inr (j, e, h) ↦ inr (j, omega arith, h) ]
 
-scan_long : (S : Tables) → length (scan_spans S) ≡ width S
+pub scan_long : (S : Tables) → length (scan_spans S) ≡ width S
 scan_long S =
     let both = length-append (map (λ (v : Var). v.range) S.vars) (map span_of S.memories) in
     let vars = length-map S.vars (λ (v : Var). v.range) in
@@ -58,13 +58,14 @@ slots_in_area S σ h u s is = ⊎_elim
     (of-append (map (λ (v : Var). v.range) S.vars) (map span_of S.memories) past.0 s past.2))
     (of-append (scan_spans S) (scan_spans S) u s is)
 
-mapped-at : {A B : Type 0} (f : A → B) (xs : List A) (i : ℕ) (a : A) → slice_get xs i ≡ Some a → slice_get (map f xs) i ≡ Some (f a)
+pub mapped-at : {A B : Type 0} (f : A → B) (xs : List A) (i : ℕ) (a : A) → slice_get xs i ≡ Some a → slice_get (map f xs) i ≡ Some (f a)
 mapped-at f [] i a e = absurd (none-some a e)
 mapped-at f (x ∷ xs) zero a e = ap (λ y. Some (f y)) (same_Some x a e)
 mapped-at f (x ∷ xs) (suc i) a e = mapped-at f xs i a e
 
 -- an element of the second of two lists
-on-right : {X : Type 0} (xs ys : List X) (i j : ℕ) (x : X) → i ≡ length xs + j → slice_get ys j ≡ Some x → slice_get (xs ++ ys) i ≡ Some x
+pub on-right : {X : Type 0} (xs ys : List X) (i j : ℕ) (x : X) → i ≡ length xs + j → slice_get ys j ≡ Some x
+    → slice_get (xs ++ ys) i ≡ Some x
 on-right [] ys i j x e is = let same : i ≡ j = omega (arith, e) in subst (λ (k : ℕ). slice_get ys k ≡ Some x) (sym same) is
 on-right (a ∷ xs) ys zero j x e is = absurd (omega (arith, e))
 on-right (a ∷ xs) ys (suc i) j x e is = on-right xs ys i j x (omega (arith, e)) is
@@ -76,10 +77,10 @@ module _ (S : Tables) where
   abbrev kept : List (ℤ × ℤ)
   kept = map span_of S.memories
 
-  var-at : (x : ℕ) (v : Var) → slice_get S.vars x ≡ Some v → slice_get (scan_spans S) x ≡ Some v.range
+  pub var-at : (x : ℕ) (v : Var) → slice_get S.vars x ≡ Some v → slice_get (scan_spans S) x ≡ Some v.range
   var-at x v is = on-left vars kept x v.range (mapped-at (λ (v : Var). v.range) S.vars x v is)
 
-  kept-at : (m : ℕ) (memory : Memory) → slice_get S.memories m ≡ Some memory
+  pub kept-at : (m : ℕ) (memory : Memory) → slice_get S.memories m ≡ Some memory
       → slice_get (scan_spans S) (length S.vars + m) ≡ Some (span_of memory)
   kept-at m memory is =
       let long = length-map S.vars (λ (v : Var). v.range) in
@@ -105,7 +106,7 @@ module _ (S : Tables) where
   some-kept m (Held name s c hold) is = let low = (S.sound.timers m name s c hold is).0 in omega (arith, ints, low)
   some-kept m (Hyst name s e lo hi start) is = omega (arith, ints)
 
-  some-of-scan : (i : ℕ) (s : ℤ × ℤ) → slice_get (scan_spans S) i ≡ Some s → s.0 ≤ℤ s.1
+  pub some-of-scan : (i : ℕ) (s : ℤ × ℤ) → slice_get (scan_spans S) i ≡ Some s → s.0 ≤ℤ s.1
   some-of-scan i s is = ⊎_elim
       (λ var. let at = mapped (λ (v : Var). v.range) S.vars i s var in
       subst (λ (r : ℤ × ℤ). r.0 ≤ℤ r.1) at.2 ((checked_of S).ranges i at.0 at.1).0)

@@ -1,5 +1,5 @@
 -- A search between two nodes, and what it found at its end.
-use Rattle.std.proofs.Common.{◌≡◌, ◌∙◌, ◌⊎◌, inl, inr, sym, ap, subst, ℕ, ◌+◌, ◌<◌, ◌≤◌, ℤ, Bool, true, List, [], ◌∷◌, ◌++◌, length, arith}
+use Rattle.std.proofs.Common.{◌≡◌, ◌∙◌, ◌⊎◌, inl, inr, sym, ap, subst, ℕ, ◌+◌, ◌^◌, ◌<◌, ◌≤◌, ℤ, Bool, true, List, [], ◌∷◌, ◌++◌, length, arith}
 use Rattle.std.specs.Prelude.{nat_lt}
 use Rattle.std.proofs.lemmas.Bool.{cases_eq}
 use Rattle.std.proofs.lemmas.List.{length-append}
@@ -61,6 +61,14 @@ within-limits budget c allowed t halving others h one = elim (h one) [
 ]
 
 module _ (f : FormulaView) (spans : List (ℤ × ℤ)) (r : Room) (c : Counts) (way : IsUnderWay f spans r c) where
+  pub all-few : length (nodes_by f r.nodes.items) < 2 ^ 32
+  all-few =
+      let count = way.walk.count in
+      let few = way.few in
+      let limit = way.limit in
+      let most = way.most in
+      omega (arith, count, few, limit, most)
+
   pub few-nodes : 0 < length r.descent.parts → length r.nodes.items < nodes_for r.budget
   few-nodes some =
       let count = way.walk.count in

@@ -1,5 +1,5 @@
 -- Nodes one after another, the parts that wait behind them, and the tree that they begin.
-use Rattle.std.proofs.Common.{◌≡◌, ◌∙◌, ◌⊎◌, inl, inr, sym, ap, subst, refl, ℕ, zero, suc, ◌+◌, ◌*◌, ◌<◌, true, arith}
+use Rattle.std.proofs.Common.{◌≡◌, ◌∙◌, ◌⊎◌, inl, inr, sym, ap, subst, refl, ℕ, zero, suc, ◌+◌, ◌*◌, ◌^◌, ◌<◌, true, arith}
 use Rattle.std.proofs.Common.{List, [], ◌∷◌, ◌++◌, length, map, take, slice_get, Some, append_assoc, append-nil}
 use Rattle.std.proofs.lemmas.List.{length-append}
 use Rattle.std.proofs.lemmas.List.Sums.{sum_by_push}
@@ -170,8 +170,9 @@ module _ (f : FormulaView) where
       each-of-tree : Each (by_law f enough) (placed_of f p (tree_of ns))
       each-of-tree = subst (λ (es : List Placed). Each (by_law f enough) es) (sym row) w.each
 
-      pub is-evidence : parts ≡ [] → IsEvidence f p ns
-      is-evidence none = record {
+      pub is-evidence : length ns < 2 ^ 32 → parts ≡ [] → IsEvidence f p ns
+      is-evidence few none = record {
+        few = few;
         tree = tree_of ns;
         nodes = nodes;
         holds = record { closed = none-open p (tree_of ns) (waiting ∙ none); each = λ i e got. (each-of-tree i e got).0 };

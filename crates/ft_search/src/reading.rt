@@ -1,10 +1,11 @@
 // What a search found, read from its room.
 
-ghost use Rattle.std.specs.Prelude.{◌≡◌, ◌<◌, ◌++◌, length, neg_ℤ, IfOk, OnOk, if◌then◌else◌};
+ghost use Rattle.std.specs.Prelude.{◌≡◌, ◌<◌, ◌^◌, ◌++◌, length, neg_ℤ, IfOk, OnOk, if◌then◌else◌};
 ghost use Rattle.ft_linear.specs.meaning.Form.{InArea, IsSmall, values_at};
 ghost use Rattle.ft_linear.specs.meaning.Halving.{cancelling, single_lines};
 ghost use Rattle.ft_cert.specs.meaning.Evidence.{Holds};
 ghost use Rattle.ft_cert.specs.meaning.Parts.{whole_of};
+ghost use Rattle.ft_cert.specs.meaning.Tree.{nodes_of};
 ghost use Rattle.ft_cert.specs.prefix.Row.{tree_of};
 ghost use Rattle.ft_cert.specs.walk.Waiting.{first_of};
 ghost use Rattle.ft_search.specs.searching.Kept.{IsEvidence, form_of, node_of, nodes_by, other_line};
@@ -150,7 +151,8 @@ impl Room {
     /// The certificate, where the last search closed the area.
     pub fn cert(&self, alloc: Global, formula: &Formula, area: &Area) -> Result<Cert, NoMemory>
         requires { IsEvidence formula.now (whole_of formula.now area.now.spans) (nodes_by formula.now self.now.nodes.items) }
-        ensures { IfOk result (Holds formula.now (whole_of formula.now area.now.spans)) }
+        ensures holds { IfOk result (Holds formula.now (whole_of formula.now area.now.spans)) }
+        ensures few { IfOk result (λ cert. length (nodes_of cert) < 2 ^ 32) }
     {
         cert_laws();
         let nodes = nodes_of(alloc, formula, &self.nodes)?;

@@ -40,6 +40,11 @@ fn is_used_up(step: Step, used: u32, splits: u32) -> bool
     }
 }
 
+/// Whether a step cuts an unknown. The bounds of its parts are new then, and the forced literals mostly the same.
+fn cuts(step: Step) -> bool {
+    matches!(step, Step::Cut { .. })
+}
+
 /// Keeps a node and takes its step.
 pub(crate) fn go(room: &mut Room, turn: Turn)
     requires waits { 0 < length room.old.descent.parts }
@@ -132,11 +137,12 @@ pub fn search(formula: &Formula, area: &Area, room: &mut Room) -> Found
     let _root = formula.root();
     let budget = room.budget;
     let mut counts = Counts::NONE;
+    let mut is_cut = false;
     'parts: loop {
         if room.descent.is_ended() {
             return Found::Closed;
         }
-        let settled = settle(formula, area, room, counts);
+        let settled = settle(formula, area, room, counts, is_cut);
         let allowed = settled.counts.allowed(budget);
         let part = room.descent.part();
         match choose(
@@ -156,6 +162,7 @@ pub fn search(formula: &Formula, area: &Area, room: &mut Room) -> Found
                 if is_used_up(turn.step, settled.counts.used, budget) {
                     return Found::Spent;
                 }
+                is_cut = cuts(turn.step);
                 counts = settled.counts.with(&turn);
                 go(room, turn);
             }

@@ -224,7 +224,14 @@ fn sweep_once(
 }
 
 /// Tightens the part at which a search stands by sweeps, until nothing changes, the room for it is used or the part is closed.
-pub(crate) fn settle(formula: &Formula, area: &Area, room: &mut Room, counts: Counts) -> Settled
+/// Where it is to be brisk, each tightening has to take off a good part of its unknown's values from the first sweep on.
+pub(crate) fn settle(
+    formula: &Formula,
+    area: &Area,
+    room: &mut Room,
+    counts: Counts,
+    brisk: bool,
+) -> Settled
     requires way { IsUnderWay formula.now area.now.spans room.old counts }
     requires over { IsOver (length area.now.spans) formula.now }
     requires some { 0 < length room.old.descent.parts }
@@ -240,7 +247,7 @@ pub(crate) fn settle(formula: &Formula, area: &Area, room: &mut Room, counts: Co
         truth: judge_first(formula, area, room, &counts),
         counts,
     };
-    let mut rounds = 0;
+    let mut rounds = if brisk { SWEEPS } else { 0 };
     'sweeps: while settled.truth == Three::Maybe {
         match sweep_once(formula, area, room, settled.counts, rounds >= SWEEPS) {
             Some(more) => settled = more,

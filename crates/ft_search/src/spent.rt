@@ -31,4 +31,11 @@ impl SpentTree {
     {
         SpentTree { nodes }
     }
+
+    /// The nodes in prefix order, up to the first part that nothing closes.
+    pub fn nodes(&self) -> &[CertNode]
+        ensures { tree_of result.now ≡ self.now }
+    {
+        self.nodes.as_slice()
+    }
 }

@@ -22,6 +22,8 @@ mod printing;
 #[cfg(test)]
 mod running;
 #[cfg(test)]
+mod searches;
+#[cfg(test)]
 mod solutions;
 #[cfg(test)]
 mod timed;

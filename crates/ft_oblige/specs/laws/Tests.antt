@@ -8,7 +8,7 @@ use Rattle.std.proofs.lemmas.Option.{none-some, same_Some}
 use Rattle.ft_core.specs.laws.Lists.{all_pass, from_one}
 use Rattle.ft_core.specs.laws.Places.{contained, place-of}
 
-every : {A : Type 0} (p : A → Bool) (xs : List A) → ((k : ℕ) (a : A) → slice_get xs k ≡ Some a → p a ≡ true) → list_all p xs ≡ true
+pub every : {A : Type 0} (p : A → Bool) (xs : List A) → ((k : ℕ) (a : A) → slice_get xs k ≡ Some a → p a ≡ true) → list_all p xs ≡ true
 every p [] h = refl
 every p (x ∷ xs) h = and_from (p x) (list_all p xs) (h zero x refl) (every p xs (λ k a e. h (suc k) a e))
 

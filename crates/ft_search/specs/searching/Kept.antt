@@ -1,5 +1,5 @@
 -- The nodes that a room keeps.
-use Rattle.std.specs.Prelude.{◌≡◌, ℕ, pos, neg_ℤ, Bool, List, [], ◌∷◌, map, slice_get, unwrap_or, if◌then◌else◌}
+use Rattle.std.specs.Prelude.{◌≡◌, ◌<◌, ◌^◌, ℕ, pos, length, neg_ℤ, Bool, List, [], ◌∷◌, map, slice_get, unwrap_or, if◌then◌else◌}
 use Rattle.ft_linear.specs.declared.lines.Line.{Line}
 use Rattle.ft_linear.specs.meaning.Form.{Factor, LinView}
 use Rattle.ft_linear.specs.meaning.Formula.{FormulaView}
@@ -35,3 +35,4 @@ pub record IsEvidence (f : FormulaView) (p : PartView) (ns : List CertNode) : Ty
   pub tree : Tree
   pub nodes : nodes_of tree ≡ ns
   pub holds : Holds f p tree
+  pub few : length ns < 2 ^ 32

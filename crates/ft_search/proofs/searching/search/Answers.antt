@@ -15,7 +15,7 @@ use Rattle.ft_search.specs.searching.Space.{IsRoomFor}
 use Rattle.ft_search.specs.searching.Turn.{IsAllowed, IsChoice, IsFoundAt, IsPoint, IsTurn}
 use Rattle.ft_search.specs.searching.Walk.{IsWalk}
 use Rattle.ft_search.proofs.PointLemmas.{moved-area, moved-point}
-use Rattle.ft_search.proofs.StateLemmas.{WithinAll, spent-all, way-begins, way-more, within-limits}
+use Rattle.ft_search.proofs.StateLemmas.{all-few, WithinAll, spent-all, way-begins, way-more, within-limits}
 use Rattle.ft_search.proofs.TurnLemmas.{asked-is, first-inside, some-parts}
 use Rattle.ft_search.proofs.WalkLemmas.{is-evidence, is-spent, unsettled-at}
 use Rattle.ft_search.proofs.searching.search.Goals as goal
@@ -33,7 +33,8 @@ returns-then-is_ended-clause-found c =
     let f = c.args.formula.now in
     let r = c.parts.room in
     is-evidence f (enough_for r.budget) (whole_of f c.args.area.now.spans) (nodes_by f r.nodes.items) r.descent.parts c.parts.counts.used
-    c.parts.counts.halved c.parts.counts.tight c.parts.invariant.way.walk (c.is_ended.ensures.0 c.if-is_ended.true)
+    c.parts.counts.halved c.parts.counts.tight c.parts.invariant.way.walk
+    (all-few f c.args.area.now.spans r c.parts.counts c.parts.invariant.way) (c.is_ended.ensures.0 c.if-is_ended.true)
 
 pub returns-in-Met-clause-found : goal.returns-in-Met-clause-found
 returns-in-Met-clause-found c =
