@@ -11,7 +11,7 @@ use Rattle.ft_linear.specs.declared.node.Node.{Node}
 use Rattle.ft_linear.specs.declared.node.Node.TheVariants.{And, Or}
 use Rattle.ft_linear.specs.laws.Nodes.{Inductive, With, bare, forces-And, forces-At, forces-Not, forces-Or, list_any-map, map-map}
 use Rattle.ft_linear.specs.laws.Nodes.{node_induction, value-And, value-At, value-Not, value-Or}
-use Rattle.ft_linear.specs.meaning.Forced.{Seen, and_forces, by_each, by_only, forces, or_forces, seen, value_of}
+use Rattle.ft_linear.specs.meaning.Forced.{NodeView, and_forces, by_each, by_only, forces, or_forces, node_view, value_of}
 
 -- a value stays, unless it was open
 abbrev pub Stays : Three → Three → Type 0
@@ -277,50 +277,50 @@ module _ (a b : ℕ → Three) (h : (n : ℕ) → Stays (a n) (b n)) where
       → forces b node want atom sign ≡ true
 
   module _ (parts : List (With Forces)) (want : Bool) (atom : ℕ) (sign : Bool) where
-    abbrev sees : (ℕ → Three) → With Forces → Seen
-    sees v e = seen v e.0
+    abbrev sees : (ℕ → Three) → With Forces → NodeView
+    sees v e = node_view v e.0
 
     values : (v : ℕ → Three) → map (value_of v) (bare parts) ≡ map (λ (e : With Forces). value_of v e.0) parts
     values v = map-map (value_of v) (λ e. e.0) parts
 
-    parts-seen : (v : ℕ → Three) → map (seen v) (bare parts) ≡ map (sees v) parts
-    parts-seen v = map-map (seen v) (λ e. e.0) parts
+    parts-seen : (v : ℕ → Three) → map (node_view v) (bare parts) ≡ map (sees v) parts
+    parts-seen v = map-map (node_view v) (λ e. e.0) parts
 
-    by-each : list_all (can_be want) (map (value_of b) (bare parts)) ≡ true → by_each (map (seen a) (bare parts)) want atom sign ≡ true
-        → by_each (map (seen b) (bare parts)) want atom sign ≡ true
+    by-each : list_all (can_be want) (map (value_of b) (bare parts)) ≡ true → by_each (map (node_view a) (bare parts)) want atom sign ≡ true
+        → by_each (map (node_view b) (bare parts)) want atom sign ≡ true
     by-each can e =
         let able : list_all (λ (x : With Forces). can_be want (value_of b x.0)) parts ≡ true =
         sym (map-all (can_be want) (λ (x : With Forces). value_of b x.0) parts) ∙ ap (list_all (can_be want)) (sym (values b)) ∙ can in
         let was : list_any (λ (x : With Forces). (sees a x).1 want atom sign) parts ≡ true =
-        sym (map-any (λ (s : Seen). s.1 want atom sign) (sees a) parts)
-        ∙ ap (λ (ss : List Seen). list_any (λ (s : Seen). s.1 want atom sign) ss) (sym (parts-seen a)) ∙ e in
-        ap (λ (ss : List Seen). list_any (λ (s : Seen). s.1 want atom sign) ss) (parts-seen b)
-        ∙ map-any (λ (s : Seen). s.1 want atom sign) (sees b) parts
+        sym (map-any (λ (s : NodeView). s.1 want atom sign) (sees a) parts)
+        ∙ ap (λ (ss : List NodeView). list_any (λ (s : NodeView). s.1 want atom sign) ss) (sym (parts-seen a)) ∙ e in
+        ap (λ (ss : List NodeView). list_any (λ (s : NodeView). s.1 want atom sign) ss) (parts-seen b)
+        ∙ map-any (λ (s : NodeView). s.1 want atom sign) (sees b) parts
         ∙ each-more (λ (x : With Forces). can_be want (value_of b x.0)) (λ (x : With Forces). (sees a x).1 want atom sign)
         (λ (x : With Forces). (sees b x).1 want atom sign) (λ x able was. x.1 want atom sign able was) parts able was
 
-    by-one : list_any (can_be want) (map (value_of b) (bare parts)) ≡ true → by_only (map (seen a) (bare parts)) want atom sign ≡ true
-        → by_only (map (seen b) (bare parts)) want atom sign ≡ true
+    by-one : list_any (can_be want) (map (value_of b) (bare parts)) ≡ true → by_only (map (node_view a) (bare parts)) want atom sign ≡ true
+        → by_only (map (node_view b) (bare parts)) want atom sign ≡ true
     by-one can e =
         let able : list_any (λ (x : With Forces). can_be want (value_of b x.0)) parts ≡ true =
         sym (map-any (can_be want) (λ (x : With Forces). value_of b x.0) parts) ∙ ap (list_any (can_be want)) (sym (values b)) ∙ can in
-        let (g, was) = guarded _ _ (ap (λ (ss : List Seen). by_only ss want atom sign) (sym (parts-seen a)) ∙ e) in
+        let (g, was) = guarded _ _ (ap (λ (ss : List NodeView). by_only ss want atom sign) (sym (parts-seen a)) ∙ e) in
         let one : count_by (λ (x : With Forces). can_be want (value_of a x.0)) parts ≡ 1 =
-        sym (count-map (λ (s : Seen). can_be want s.0) (sees a) parts) ∙ eqb-true _ 1 g in
+        sym (count-map (λ (s : NodeView). can_be want s.0) (sees a) parts) ∙ eqb-true _ 1 g in
         let picked : list_any (λ (x : With Forces). can_be want (value_of a x.0) && (sees a x).1 want atom sign) parts ≡ true =
-        sym (map-any (λ (s : Seen). can_be want s.0 && s.1 want atom sign) (sees a) parts) ∙ was in
+        sym (map-any (λ (s : NodeView). can_be want s.0 && s.1 want atom sign) (sees a) parts) ∙ was in
         let more = only-more (λ (x : With Forces). can_be want (value_of a x.0)) (λ (x : With Forces). can_be want (value_of b x.0))
         (λ (x : With Forces). (sees a x).1 want atom sign) (λ (x : With Forces). (sees b x).1 want atom sign)
         (λ x now. could-be want (value_of a x.0) (value_of b x.0) (value-stays a b h x.0) now) (λ x now was. x.1 want atom sign now was)
         parts one able picked in
-        ap (λ (ss : List Seen). by_only ss want atom sign) (parts-seen b)
-        ∙ guard (count_by (λ (s : Seen). can_be want s.0) (map (sees b) parts))
-        (list_any (λ (s : Seen). can_be want s.0 && s.1 want atom sign) (map (sees b) parts))
-        (count-map (λ (s : Seen). can_be want s.0) (sees b) parts ∙ more.0)
-        (map-any (λ (s : Seen). can_be want s.0 && s.1 want atom sign) (sees b) parts ∙ more.1)
+        ap (λ (ss : List NodeView). by_only ss want atom sign) (parts-seen b)
+        ∙ guard (count_by (λ (s : NodeView). can_be want s.0) (map (sees b) parts))
+        (list_any (λ (s : NodeView). can_be want s.0 && s.1 want atom sign) (map (sees b) parts))
+        (count-map (λ (s : NodeView). can_be want s.0) (sees b) parts ∙ more.0)
+        (map-any (λ (s : NodeView). can_be want s.0 && s.1 want atom sign) (sees b) parts ∙ more.1)
 
   all-parts : (parts : List (With Forces)) (want : Bool) (atom : ℕ) (sign : Bool) → can_be want (value_of b (And (bare parts))) ≡ true
-      → and_forces (map (seen a) (bare parts)) want atom sign ≡ true → and_forces (map (seen b) (bare parts)) want atom sign ≡ true
+      → and_forces (map (node_view a) (bare parts)) want atom sign ≡ true → and_forces (map (node_view b) (bare parts)) want atom sign ≡ true
   all-parts parts true atom sign can e =
       by-each parts true atom sign (all-can (map (value_of b) (bare parts)) (ap (can_be true) (sym (value-And b (bare parts))) ∙ can)) e
   all-parts parts false atom sign can e =
@@ -328,7 +328,7 @@ module _ (a b : ℕ → Three) (h : (n : ℕ) → Stays (a n) (b n)) where
       e
 
   any-parts : (parts : List (With Forces)) (want : Bool) (atom : ℕ) (sign : Bool) → can_be want (value_of b (Or (bare parts))) ≡ true
-      → or_forces (map (seen a) (bare parts)) want atom sign ≡ true → or_forces (map (seen b) (bare parts)) want atom sign ≡ true
+      → or_forces (map (node_view a) (bare parts)) want atom sign ≡ true → or_forces (map (node_view b) (bare parts)) want atom sign ≡ true
   any-parts parts true atom sign can e =
       by-one parts true atom sign (some-can (map (value_of b) (bare parts)) (ap (can_be true) (sym (value-Or b (bare parts))) ∙ can)) e
   any-parts parts false atom sign can e =
