@@ -1,6 +1,3 @@
-ghost use Rattle.std.specs.Prelude.{◌≡◌, ◌<◌, ◌^◌, length, IfOk};
-ghost use Rattle.ft_linear.specs.meaning.Formula.{IsOver};
-
 use ft_base::{Boxed, List, NoMemory, Span};
 use ft_cert::{Cert, CertNode};
 use ft_check::{CertFault, check};
@@ -43,18 +40,23 @@ fn raw_of(alloc: Global, first: Literal, second: Option<Literal>) -> Result<Raw,
     Ok(Raw::And(parts))
 }
 
-/// The literals together, settled.
+/// A formula, settled.
+fn settled(alloc: Global, raw: &Raw) -> Result<Formula, NoMemory> {
+    if is_moderate(raw) {
+        settle(alloc, raw)
+    } else {
+        Err(NoMemory)
+    }
+}
+
+/// The literals together.
 pub(crate) fn formula_of(
     alloc: Global,
     first: Literal,
     second: Option<Literal>,
 ) -> Result<Formula, NoMemory> {
     let raw = raw_of(alloc, first, second)?;
-    if is_moderate(&raw) {
-        settle(alloc, &raw)
-    } else {
-        Err(NoMemory)
-    }
+    settled(alloc, &raw)
 }
 
 /// So many unknowns from 0 to a number.
@@ -301,7 +303,7 @@ pub(crate) fn cuts(alloc: Global, count: u32) -> Result<List<CertNode>, NoMemory
 fn checks_100000_cases(rt: HostRuntime) -> Result<(), Fail> {
     let alloc = rt.alloc();
     let area = area_of(alloc, 1, 9)?;
-    let plain = settle(alloc, &Raw::Or(List::new(alloc)))?;
+    let plain = settled(alloc, &Raw::Or(List::new(alloc)))?;
     assert_eq!(rt; first_atom(&plain), (0, None, None));
     assert_eq!(rt;
         refused(alloc, &plain, &area, cases(alloc, 100_000)?)?,

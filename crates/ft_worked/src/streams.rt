@@ -1,19 +1,15 @@
 //! What the replayer answers on the trip, of a history, and of a trace that is replayed scan by scan as it is read.
-ghost use Rattle.std.specs.Prelude.{ℕ, ◌+◌, ◌≡◌, ◌∷◌, [], Bool, List, length, MatchBool, IfErr, IfOk, IfSome};
+ghost use Rattle.std.specs.Prelude.{ℕ, ◌+◌, ◌≡◌, ◌∷◌, [], Bool, List, length, MatchBool, IfOk, IfSome};
 ghost use Rattle.ft_core.specs.meaning.Kinds.{monitored, count_of};
 ghost use Rattle.ft_mean.specs.meaning.Allowed.{IsMonitored};
-ghost use Rattle.ft_mean.specs.meaning.Proper.{AllProper};
-ghost use Rattle.ft_mean.specs.meaning.Reading.{IsListOf, Scans};
+ghost use Rattle.ft_mean.specs.meaning.Reading.{IsListOf};
 ghost use Rattle.ft_scan.specs.meaning.Allowing.{nat_after};
-ghost use Rattle.ft_trace.specs.meaning.Reader.{HasGiven};
 ghost use Rattle.ft_worked.specs.Made.{IsMadeOf};
 ghost use Rattle.ft_worked.specs.Running.{Streams, kept};
 ghost use Rattle.ft_worked.specs.Trip.{full_of, trip};
 
-use crate::law::mixer_is_proper;
-use crate::mixer::mixer;
 use crate::replays::scan_of;
-use crate::traces::{next, read};
+use crate::traces::read;
 use crate::trip::trip;
 use ft_base::{List, NoMemory, Text};
 use ft_core::{History, Tables};
@@ -82,7 +78,6 @@ fn replay_next(
     ensures streams { (bytes : List ℕ) → Streams set.now bytes reader.old replayer.old earlier.old
         → IfOk result (λ found. Streams set.now bytes reader.new replayer.new earlier.new) }
     ensures longer { IfOk result (λ found. MatchBool found (length replayer.new.list ≡ length replayer.old.list + 1) Unit) }
-    ensures given { IfErr result (λ stop. (bytes : List ℕ) × (h : Scans) × HasGiven set.now bytes reader.new h) }
 {
     row_laws();
     match reader.next(set, row) {
@@ -109,7 +104,6 @@ fn replay_all(
 ) -> Result<(), Stop>
     requires streams { (bytes : List ℕ) × Streams set.now bytes reader.old replayer.old earlier.old }
     requires room { length row.old ≡ count_of monitored set.now.vars }
-    ensures given { IfErr result (λ stop. (bytes : List ℕ) × (h : Scans) × HasGiven set.now bytes reader.new h) }
 {
     'scans: loop {
         match replay_next(set, reader, replayer, earlier, row) {
@@ -120,26 +114,9 @@ fn replay_all(
     }
 }
 
-/// Reads the scans that a reader has left, and tells the fault that ends them, if one does.
-fn read_rest(reader: &mut TraceReader<'_>, set: &Tables, row: &mut [i64]) -> Result<(), TraceFault>
-    requires given { (bytes : List ℕ) × (h : Scans) × HasGiven set.now bytes reader.old h }
-    requires room { length row.old ≡ count_of monitored set.now.vars }
-{
-    for _ in 0..100_001 {
-        match next(reader, set, row) {
-            Ok(true) => {}
-            Ok(false) => return Ok(()),
-            Err(fault) => return Err(fault),
-        }
-    }
-    Ok(())
-}
-
-/// How many scans a trace of one variable spells, and the first at which the sides differ, if they do. No history is kept. From a
-/// scan on that the environment forbids the trace is only read: a fault of it comes first.
+/// How many scans a trace of the trip spells, and the first at which the sides differ, if they do. No history is kept.
 fn streamed(alloc: Global, set: &Tables, bytes: &[u8]) -> Result<(usize, Option<usize>), Stop>
-    requires proper { AllProper set.now }
-    requires one { count_of monitored set.now.vars ≡ 1 }
+    requires { (early : Bool) × IsMadeOf (trip (full_of early)) set.now }
 {
     let mut reader = match TraceReader::open(alloc, set, bytes) {
         Ok(reader) => reader,
@@ -153,30 +130,17 @@ fn streamed(alloc: Global, set: &Tables, bytes: &[u8]) -> Result<(usize, Option<
     let mut row = [0];
     match replay_all(set, &mut reader, &mut replayer, &mut earlier, &mut row) {
         Ok(()) => Ok((replayer.scans(), replayer.first())),
-        Err(Stop::Fault(fault)) => Err(Stop::Fault(fault)),
-        Err(Stop::Forbidden { scans }) => match read_rest(&mut reader, set, &mut row) {
-            Ok(()) => Err(Stop::Forbidden { scans }),
-            Err(fault) => Err(Stop::Fault(fault)),
-        },
+        Err(stop) => Err(stop),
     }
 }
 
-/// The same of the trip, which is made here.
+/// The same, with the set made here.
 pub(crate) fn streamed_trip(
     alloc: Global,
     early: bool,
     bytes: &[u8],
 ) -> Result<(usize, Option<usize>), Stop> {
     match trip(alloc, early) {
-        Ok(set) => streamed(alloc, &set, bytes),
-        Err(NoMemory) => Err(Stop::Fault(TraceFault::NoMemory)),
-    }
-}
-
-/// The same of the mixer.
-fn streamed_mixer(alloc: Global, bytes: &[u8]) -> Result<(usize, Option<usize>), Stop> {
-    mixer_is_proper();
-    match mixer(alloc) {
         Ok(set) => streamed(alloc, &set, bytes),
         Err(NoMemory) => Err(Stop::Fault(TraceFault::NoMemory)),
     }
@@ -238,37 +202,6 @@ fn a_stream_has_a_first_fault(rt: HostRuntime) -> Result<(), Fail> {
     for (text, fault) in STREAM_FAULTS {
         let found = streamed_trip(rt.alloc(), false, text.as_bytes());
         assert_eq!(rt; found, Err(Stop::Fault(fault)), "{text}");
-    }
-    Ok(())
-}
-
-// Traces of the mixer, whose level begins at 5 and rises by 4 at most, and what is answered of each. The sides differ at once.
-const MIXED: [(&str, Result<(usize, Option<usize>), Stop>); 8] = [
-    ("l\n5\n9\n8\n", Ok((3, Some(0)))),
-    ("l\n4\n", Err(Stop::Forbidden { scans: 0 })),
-    ("l\n5\n4\n9\n", Err(Stop::Forbidden { scans: 2 })),
-    ("l\n5\n4\n9\n0\n9\n", Err(Stop::Forbidden { scans: 2 })),
-    // a later fault comes first
-    (
-        "l\n4\n2\nfive\n",
-        Err(Stop::Fault(TraceFault::Value { scan: 2, column: 1 })),
-    ),
-    (
-        "l\n5\n0\n5\n10\n",
-        Err(Stop::Fault(TraceFault::OutOfRange { scan: 3, column: 1 })),
-    ),
-    (
-        "l\n5\n0\n5\n1,2\n",
-        Err(Stop::Fault(TraceFault::Width { scan: 3 })),
-    ),
-    ("l\n", Err(Stop::Fault(TraceFault::Empty))),
-];
-
-#[test]
-fn a_fault_comes_before_a_forbidden_scan(rt: HostRuntime) -> Result<(), Fail> {
-    for (text, wanted) in MIXED {
-        let found = streamed_mixer(rt.alloc(), text.as_bytes());
-        assert_eq!(rt; found, wanted, "{text}");
     }
     Ok(())
 }

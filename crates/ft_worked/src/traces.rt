@@ -226,7 +226,7 @@ fn modes_are_read_and_written(rt: HostRuntime) -> Result<(), Fail> {
 }
 
 /// The next scan of the level and the mode, and whether there was one.
-pub(crate) fn next(
+fn next(
     reader: &mut TraceReader<'_>,
     set: &Tables,
     values: &mut [i64],

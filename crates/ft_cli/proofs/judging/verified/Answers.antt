@@ -13,7 +13,7 @@ returns c = λ bytes spelled.
     let least = small.variables.monitored.range.0 in
     let fits : FitsSigned w64 c.lo.result = search rules in
     let list : c.in_ok-list.list ≡ steady S.depth least =
-    (simp to_z-of_z at c.in_ok-list.ensures) ∙ ap (steady S.depth) c.lo.ensures in
+    (simp to_z-of_z at c.in_ok-list.ensures) ∙ ap (steady S.depth) c.lo.ensures.value in
     record {
       spelled = spelled;
       few = c.requires.few S is;
