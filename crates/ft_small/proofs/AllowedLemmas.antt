@@ -1,5 +1,5 @@
 -- A list of scans of one monitored value is allowed.
-use Rattle.std.proofs.Common.{◌≡◌, ◌∙◌, sym, ap, subst, refl, ℕ, zero, suc, ◌<◌, ℤ, pos, Bool, true, false, ◌&&◌, [], ◌∷◌, length}
+use Rattle.std.proofs.Common.{◌≡◌, ◌∙◌, sym, ap, subst, refl, ℕ, zero, suc, ◌<◌, ℤ, pos, Bool, true, false, cond, ◌&&◌, [], ◌∷◌, length}
 use Rattle.std.proofs.Common.{slice_get, slice_index_or, Some, None, arith, true≢false}
 use Rattle.std.specs.Prelude.{IsTrue}
 use Rattle.std.specs.List.{list_all}
@@ -11,7 +11,7 @@ use Rattle.ft_core.specs.declared.tables.Var.{Var}
 use Rattle.ft_core.specs.declared.tables.VarKind.TheVariants.{Mon, Con, Input, Output}
 use Rattle.ft_core.specs.meaning.Kinds.{monitored, count_of, place_of, is_of}
 use Rattle.ft_mean.specs.meaning.Value.{truth}
-use Rattle.ft_mean.specs.meaning.Reading.{IsVar, init_of, reading_of}
+use Rattle.ft_mean.specs.meaning.Reading.{IsVar, begins, init_of, reading_of}
 use Rattle.ft_mean.specs.meaning.Memory.{look}
 use Rattle.ft_mean.specs.meaning.Allowed.{Allowed, nat_at}
 use Rattle.ft_small.specs.meaning.SetOf.{IsSetOf, vars_of, var_of}
@@ -51,13 +51,16 @@ module _ (f : SmallSet) (S : Tables) (is : IsSetOf f S) (n : ℕ) (value : ℤ) 
         ∙ ap (λ row. slice_index_or row (place_of monitored S.vars x) (pos 0)) (scan-at n value t l)
         ∙ ap (λ y. slice_index_or (value ∷ []) (place_of monitored S.vars y) (pos 0)) (sym (only-monitored x v e).0)
 
+    -- no scan has a clause, whether it begins or not
+    no-clause : (begins : Bool) → cond begins S.first S.step ≡ []
+    no-clause true = is.first
+    no-clause false = is.step
+
     allowed-at : (t : ℕ) → IsTrue (nat_at S (reading_of S monitored (steady n value)) t)
-    allowed-at zero =
-        (λ i. list_all (truth (look S (reading_of S monitored (steady n value)) zero)) (is.always i)
-        && list_all (truth (look S (reading_of S monitored (steady n value)) zero)) (is.first i))
-    allowed-at (suc t) =
-        (λ i. list_all (truth (look S (reading_of S monitored (steady n value)) (suc t))) (is.always i)
-        && list_all (truth (look S (reading_of S monitored (steady n value)) (suc t))) (is.step i))
+    allowed-at t =
+        let ρ = reading_of S monitored (steady n value) in
+        let V = look S ρ t in
+        λ i. list_all (truth V) (is.always i) && list_all (truth V) (no-clause (begins S ρ t) i)
 
     below : (t : ℕ) → t < length (steady n value) → t < n
     below t l = subst (λ m. t < m) (long n value) l
