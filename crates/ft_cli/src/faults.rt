@@ -106,12 +106,7 @@ fn named_at(alloc: Global, words: &[u8], name: &[u8], place: Place) -> Result<Te
 }
 
 /// A name with its section before it.
-fn in_section(
-    alloc: Global,
-    words: &[u8],
-    section: Section,
-    name: &[u8],
-) -> Result<Text, NoMemory>
+fn in_section(alloc: Global, words: &[u8], section: Section, name: &[u8]) -> Result<Text, NoMemory>
     ensures { IfOk result (λ text. text ≡ named (named words.now (section_word section)) name.now) }
 {
     let whole = named(alloc, words, section_name(section))?;

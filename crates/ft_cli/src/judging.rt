@@ -76,12 +76,7 @@ fn with_proper_tables(alloc: Global, small: &SmallSet) -> Result<(), Report>
 }
 
 /// The report on a set with proper tables whose design puts out something else at this monitored value.
-fn refuted(
-    alloc: Global,
-    tables: Tables,
-    small: &SmallSet,
-    value: i64,
-) -> Result<Report, NoMemory>
+fn refuted(alloc: Global, tables: Tables, small: &SmallSet, value: i64) -> Result<Report, NoMemory>
     requires is { IsSetOf small.now tables }
     requires few { HasFewPoints small.now }
     requires proper { HasProperTables small.now }

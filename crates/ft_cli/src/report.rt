@@ -1,6 +1,6 @@
+use ft_admit::SetFault;
 use ft_base::{NoMemory, Text};
 use ft_core::{History, Tables};
-use ft_admit::SetFault;
 use ft_tree::Tree;
 
 /// Which file a report speaks of.

@@ -49,12 +49,7 @@ fn spaces(alloc: Global, count: usize) -> Result<Vec<u8>, AllocError> {
 const LONG_FILES: [(&str, usize, u8, &[u8]); 4] = [
     ("verify f", 4_194_305, 10, b"too long: set\n"),
     ("print f", 4_194_305, 10, b"too long: set\n"),
-    (
-        "verify f",
-        4_194_304,
-        3,
-        b"refused\nSyntax at 1:4194305\n",
-    ),
+    ("verify f", 4_194_304, 3, b"refused\nSyntax at 1:4194305\n"),
     ("print f", 4_194_304, 3, b"refused\nSyntax at 1:4194305\n"),
 ];
 

@@ -241,7 +241,13 @@ const SCALED_HIGHS: [i64; 6] = [100_000, 100_000, 1, 400_000, 400_000, 1];
 fn creeping_spans_are_left_alone(rt: HostRuntime) -> Result<(), Fail> {
     let raw = clauses(rt.alloc(), &SCALED)?;
     let answer = found(rt.alloc(), &raw, &SCALED_HIGHS, 50, false)?;
-    let few = matches!(answer, Answer::Spent { splits: 50, tight: 0..=99 });
+    let few = matches!(
+        answer,
+        Answer::Spent {
+            splits: 50,
+            tight: 0..=99
+        }
+    );
     assert!(rt; few, "{answer:?}");
     Ok(())
 }
@@ -307,7 +313,11 @@ fn falling(alloc: Global, count: u32) -> Result<Formula, NoMemory> {
     let mut atoms = List::new(alloc);
     let mut parts = List::new(alloc);
     for unknown in 0..count {
-        let before = if unknown == 0 { NONE } else { (unknown - 1, -1) };
+        let before = if unknown == 0 {
+            NONE
+        } else {
+            (unknown - 1, -1)
+        };
         let literal = (0, before, (unknown, 1), 0);
         match Lin::new(factors(alloc, literal)?, 0) {
             Some(form) => atoms.push(form)?,

@@ -226,11 +226,7 @@ fn modes_are_read_and_written(rt: HostRuntime) -> Result<(), Fail> {
 }
 
 /// The next scan of the level and the mode, and whether there was one.
-fn next(
-    reader: &mut TraceReader<'_>,
-    set: &Tables,
-    values: &mut [i64],
-) -> Result<bool, TraceFault>
+fn next(reader: &mut TraceReader<'_>, set: &Tables, values: &mut [i64]) -> Result<bool, TraceFault>
     requires given { (bytes : List ℕ) × (h : Scans) × HasGiven set.now bytes reader.old h }
     requires room { length values.old ≡ count_of monitored set.now.vars }
     ensures given { (bytes : List ℕ) × (h : Scans) × HasGiven set.now bytes reader.new h }
