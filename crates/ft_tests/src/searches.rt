@@ -1,4 +1,4 @@
-ghost use Rattle.std.specs.Prelude.{◌≤◌, length, IfOk};
+ghost use Rattle.std.specs.Prelude.{◌≤◌, ◌<◌, length, IfOk};
 ghost use Rattle.ft_linear.specs.meaning.Formula.{IsOver};
 ghost use Rattle.ft_search.specs.searching.Space.{IsFreshFor};
 
@@ -253,7 +253,9 @@ fn creeping_spans_are_left_alone(rt: HostRuntime) -> Result<(), Fail> {
 }
 
 /// x1 <= x2, .., each at most the next, and the last at most the first less one.
-fn circle(alloc: Global, count: u32) -> Result<Raw, NoMemory> {
+fn circle(alloc: Global, count: u32) -> Result<Raw, NoMemory>
+    requires { 0 < count }
+{
     let mut literals = List::new(alloc);
     for unknown in 1..count {
         literals.push((unknown, (unknown - 1, 1), (unknown, -1), 0))?;
