@@ -8,8 +8,6 @@ mod commands;
 #[cfg(test)]
 mod containers;
 #[cfg(test)]
-mod faults;
-#[cfg(test)]
 mod formulas;
 #[cfg(test)]
 mod memories;
@@ -21,8 +19,6 @@ mod ports;
 mod printing;
 #[cfg(test)]
 mod running;
-#[cfg(test)]
-mod searches;
 #[cfg(test)]
 mod solutions;
 #[cfg(test)]
