@@ -1,13 +1,24 @@
 -- What comes of a command is an outcome, and what an outcome with each status is.
-use Rattle.std.proofs.Common.{◌≡◌, ◌⊎◌, inl, inr, ◌∙◌, ap, sym, refl, subst, ℕ, ◌<◌, ◌≤◌, Bool, true, false, List, [], ◌∷◌, Option, Some}
-use Rattle.std.proofs.Common.{None, IfSome, if◌then◌else◌, codes, arith, rules}
+use Rattle.std.proofs.Common.{◌≡◌, ◌⊎◌, inl, inr, ◌∙◌, ap, sym, refl, subst, ℕ, zero, suc, ◌+◌}
+use Rattle.std.proofs.Common.{◌*◌, ◌<◌, ◌≤◌, ℤ, Bool, true, false, ◌-◌, drop, length, length-drop, map, take, List, [], ◌∷◌, Option, Some}
+use Rattle.std.proofs.Common.{None, IfSome, if◌then◌else◌, codes, arith}
 use Rattle.std.specs.Prelude.{Err}
-use Rattle.std.specs.List.{Contains}
+use Rattle.std.specs.List.{All, Contains}
 use Rattle.std.specs.Option.{option_map}
 use Rattle.std.specs.Str.{bytes_eq}
+use Rattle.std.proofs.lemmas.List.{take_all}
+use Rattle.std.proofs.lemmas.List.Elements.{All-contains_itself}
 use Rattle.std.proofs.lemmas.Option.{none-some, same_Some}
+use Rattle.ft_core.specs.declared.label.Label.{Label}
+use Rattle.ft_core.specs.declared.tables.Grid.{Grid}
 use Rattle.ft_core.specs.declared.tables.Tables.{Tables}
 use Rattle.ft_mean.specs.meaning.Proper.{AllProper}
+use Rattle.ft_mean.specs.meaning.Value.{View}
+use Rattle.ft_claims.specs.laws.CoverLaws.{ProperShowsNone}
+use Rattle.ft_claims.specs.meaning.Coverage.{Fault, gap, overlap, range}
+use Rattle.ft_cover.specs.meaning.Covered.{AreFirstTwo, IsCover, IsFirstBeyond, IsShownAt, IsSpentAt, NoCell}
+use Rattle.ft_cover.specs.declared.answer.Cover.TheVariants as cover
+use Rattle.ft_cert.specs.meaning.Tree as cert
 use Rattle.ft_port.specs.Causes.{one_more, Rose}
 use Rattle.ft_port.specs.Reads.{Read}
 use Rattle.ft_port.specs.Shelf.{OthersStay}
@@ -18,24 +29,25 @@ use Rattle.ft_tree.specs.declared.tree.Tree.{Tree}
 use Rattle.ft_parse.specs.meaning.Parse.{IsFault, Reads, Spells}
 use Rattle.ft_parse.specs.declared.fault.ParseFault.{ParseFault}
 use Rattle.ft_parse.specs.declared.fault.ParseFault.TheVariants as parse
-use Rattle.ft_build.specs.declared.parts.Parts.{Parts}
 use Rattle.ft_blocks.specs.meaning.Faults.{HasNoBlockFault}
 use Rattle.ft_admit.specs.laws.OneSet.{OneSet}
-use Rattle.ft_admit.specs.meaning.SetFaults.{IsSetFault}
+use Rattle.ft_admit.specs.meaning.SetFaults.{IsSetFault, IsSetOfText}
 use Rattle.ft_admit.specs.meaning.TreeFaults.{HasNoFault}
 use Rattle.ft_admit.specs.meaning.Trees.{set_of_tree}
 use Rattle.ft_admit.specs.declared.set_fault.SetFault.{SetFault}
 use Rattle.ft_admit.specs.declared.set_fault.SetFault.TheVariants as set
-use Rattle.ft_small.specs.meaning.SetOf.{IsSetOf}
-use Rattle.ft_small.specs.meaning.Finding.{HasPoints}
 use Rattle.ft_cli.specs.meaning.Judgement.{IsJudgement, IsPrint, IsRefused}
-use Rattle.ft_cli.specs.meaning.Report.{status_of}
-use Rattle.ft_cli.specs.Top.{Command, verify, print, file_of, Names, NoOthers, set_limit, Use, IsRead, CanBeRead, NamesKnown, HasRefutation}
-use Rattle.ft_cli.specs.Top.{Means, IsOutcome, usage, read_fault, too_long, no_memory, content, HasStatus, HasHeadline, CanBeJudged}
-use Rattle.ft_cli.specs.Top.{CanBePrinted, IsVerdictOn, IsComplete, PrintsAll}
-use Rattle.ft_cli.specs.stages.Command.{report_on_error, report_on_fault, report_on_unread}
-use Rattle.ft_cli.specs.declared.report.Report.{Report}
-use Rattle.ft_cli.specs.declared.report.Report.TheVariants as report
+use Rattle.ft_report.specs.meaning.Report.{status_of}
+use Rattle.ft_cli.specs.Top.{Command, verify, print, replay, files_of, file_for}
+use Rattle.ft_cli.specs.Top.{Names, NoOthers, limit_of, Use, IsRead, CanBeRead, NamesKnown}
+use Rattle.ft_cli.specs.Top.{Means, IsOutcome, usage, read_fault, too_long, no_memory, content, HasStatus, HasHeadline}
+use Rattle.ft_cli.specs.Top.{CanBePrinted, HasRefutation, OfEachSet, PrintsAll}
+use Rattle.ft_cli.specs.stages.Command.{IsUnfetched, report_on_error, report_on_fault, report_on_unread}
+use Rattle.ft_cli.specs.stages.Command as unfetched
+use Rattle.ft_report.specs.declared.report.Which.{Which}
+use Rattle.ft_report.specs.declared.report.Which.TheVariants.{Set, Trace}
+use Rattle.ft_report.specs.declared.report.Report.{Report}
+use Rattle.ft_report.specs.declared.report.Report.TheVariants as report
 use Rattle.ft_cli.specs.declared.ended.Ended.{Ended}
 
 -- the report on a text that isn't read tells why
@@ -82,46 +94,101 @@ refused bytes (set.GoalMissing name) is only = told bytes _ (λ e. cc) is only
 refused bytes (set.ShownTwice name) is only = told bytes _ (λ e. cc) is only
 refused bytes set.NoMemory is only = tt
 
--- whichever command it is, its file is among these
-abbrev HasFile : List (List ℕ) → Option Command → Type 0
-HasFile names command = IfSome command (λ c. Contains names (file_of c))
+-- whichever command it is, its files are among these
+abbrev HasFiles : List (List ℕ) → Option Command → Type 0
+HasFiles names command = IfSome command (λ c. All (Contains names) (files_of c))
 
--- the words after the first have the name of the file
+-- the words after the first have the names of the files
 pub known-after : (first : List ℕ) (rest : List (List ℕ)) → NamesKnown (first ∷ rest) rest
 known-after first [] = tt
 known-after first (file ∷ []) = by_tests (bytes_eq first (codes "verify")) (bytes_eq first (codes "print"))
   where
-    by_tests : (a b : Bool) → HasFile (file ∷ []) (if a then Some (verify file) else (if b then Some (print file) else None))
-    by_tests true b = search rules
-    by_tests false true = search rules
+    by_tests : (a b : Bool) → HasFiles (file ∷ []) (if a then Some (verify file) else (if b then Some (print file) else None))
+    by_tests true b = All-contains_itself (file ∷ [])
+    by_tests false true = All-contains_itself (file ∷ [])
     by_tests false false = tt
-known-after first (file ∷ other ∷ more) = tt
+known-after first (file ∷ trace ∷ []) = by_test (bytes_eq first (codes "replay"))
+  where
+    by_test : (a : Bool) → HasFiles (file ∷ trace ∷ []) (if a then Some (replay file trace) else None)
+    by_test true = All-contains_itself (file ∷ trace ∷ [])
+    by_test false = tt
+known-after first (file ∷ trace ∷ other ∷ more) = tt
 
-pub ruleset known = (known-after)
+-- of whatever the words are made
+rest-known : {A : Type 0} (text : A → List ℕ) (words : List A) → NamesKnown (map text words) (map text (drop 1 words))
+rest-known text [] = tt
+rest-known text (word ∷ rest) = known-after (text word) (map text rest)
 
-module _ (command : Command) (file : List ℕ) (is : file ≡ file_of command) where
-  -- what is told of the bytes that were read is an outcome
-  pub content-outcome : (uses : List ℕ → Use) (bytes : List ℕ) (r : Report) → IsRead (uses file) bytes → Means command bytes r
-      → IsOutcome (Some command) uses r
-  content-outcome uses bytes r read means = content command refl bytes (subst (λ name. IsRead (uses name) bytes) is read) means
+pub known-words : {A : Type 0} (text : A → List ℕ) (words : List A)
+    → NamesKnown (map text words) (map text (take (length words - 1) (drop 1 words)))
+known-words text words =
+    subst (λ rest. NamesKnown (map text words) (map text rest))
+    (sym (take_all (length words - 1) (drop 1 words) (omega (arith, length-drop 1 words)))) (rest-known text words)
 
-  -- and so is why a file wasn't fetched
-  pub unfetched-outcome : (uses : List ℕ → Use) (e : FetchError) (r : Report) → r ≡ report_on_error e
-      → HasFetchCause (uses file).content (uses file).reads set_limit (uses file).faults_before (uses file).faults_now (uses file).reach e
-      → IsOutcome (Some command) uses r
-  unfetched-outcome uses fetching.Failed r same cause = read_fault file (sym is) cause same
-  unfetched-outcome uses fetching.TooLong r same cause = too_long file (sym is) cause.0 same
-  unfetched-outcome uses fetching.NoMemory r same cause = no_memory same
+-- the first and the second of some files are among all that hold them
+pub first-known : (names : List (List ℕ)) (file : List ℕ) (rest : List (List ℕ)) → All (Contains names) (file ∷ rest) → Contains names file
+first-known names file rest known = known 0 [] (omega arith)
 
-  -- the command reads one file, and the others stay
-  pub others-stay : (reach_before reach_now faults_before faults_now : List ℕ → ℕ) (reads_before reads_now : List ℕ → List Read)
-      → OthersStay file reach_before reach_now faults_before faults_now reads_before reads_now
+pub second-known : (names : List (List ℕ)) (file trace : List ℕ) → All (Contains names) (file ∷ trace ∷ []) → Contains names trace
+second-known names file trace known = known 1 [] (omega arith)
+
+pub first-of : (file : List ℕ) (rest : List (List ℕ)) → Contains (file ∷ rest) file
+first-of file rest = (0, omega arith, refl)
+
+pub second-of : (file trace : List ℕ) → Contains (file ∷ trace ∷ []) trace
+second-of file trace = (1, omega arith, refl)
+
+-- why a file wasn't fetched
+pub unfetched-cause : (u : Use) (which : Which) (e : FetchError) (r : Report) → r ≡ report_on_error e which
+    → HasFetchCause u.content u.reads (limit_of which) u.faults_before u.faults_now u.reach e → IsUnfetched u which r
+unfetched-cause u which fetching.Failed r same cause = unfetched.failed cause same
+unfetched-cause u which fetching.TooLong r same cause = unfetched.too_long cause.0 same
+unfetched-cause u which fetching.NoMemory r same cause = unfetched.no_memory same
+
+module _ (command : Command) (which : Which) (file : List ℕ) (names : Contains (files_of command) file)
+    (is : file_for command which ≡ Some file) where
+  -- that a file of a command wasn't fetched is an outcome of it
+  pub unfetched-outcome : (uses : List ℕ → Use) (r : Report) → IsUnfetched (uses file) which r → IsOutcome (Some command) uses r
+  unfetched-outcome uses r (unfetched.failed cause same) = read_fault file names cause same
+  unfetched-outcome uses r (unfetched.too_long cause same) = too_long command refl which file is cause same
+  unfetched-outcome uses r (unfetched.no_memory same) = no_memory same
+
+-- what is told of the bytes that were read is an outcome
+pub judged-outcome : (file : List ℕ) (uses : List ℕ → Use) (bytes : List ℕ) (r : Report) → IsRead (uses file) (limit_of Set) bytes
+    → IsJudgement bytes r → IsOutcome (Some (verify file)) uses r
+judged-outcome file uses bytes r read means = content (verify file) refl (bytes, read, means)
+
+pub printed-outcome : (file : List ℕ) (uses : List ℕ → Use) (bytes : List ℕ) (r : Report) → IsRead (uses file) (limit_of Set) bytes
+    → IsPrint bytes r → IsOutcome (Some (print file)) uses r
+printed-outcome file uses bytes r read means = content (print file) refl (bytes, read, means)
+
+-- a command of one file leaves the others
+pub others-stay : (command : Command) (file : List ℕ) → files_of command ≡ file ∷ []
+    → (reach_before reach_now faults_before faults_now : List ℕ → ℕ) (reads_before reads_now : List ℕ → List Read)
+    → OthersStay file reach_before reach_now faults_before faults_now reads_before reads_now
+    → NoOthers (Some command) reach_before reach_now faults_before faults_now reads_before reads_now
+others-stay command file is reach_before reach_now faults_before faults_now reads_before reads_now stay = record {
+  reach = λ other not. stay.reach other (λ same. not (named other same));
+  faults = λ other not. stay.faults other (λ same. not (named other same));
+  reads = λ other not. stay.reads other (λ same. not (named other same));
+}
+  where
+    named : (other : List ℕ) → other ≡ file → Contains (files_of command) other
+    named other same = subst (λ files. Contains files other) (sym is) (0, omega arith, sym same)
+
+-- what holds of a command holds of one that is the same
+module _ (asked command : Command) (same : asked ≡ command) where
+  pub known-as : (names : List (List ℕ)) → All (Contains names) (files_of asked) → All (Contains names) (files_of command)
+  known-as names known = subst (λ c. All (Contains names) (files_of c)) same known
+
+  pub outcome-as : (uses : List ℕ → Use) (r : Report) → IsOutcome (Some command) uses r → IsOutcome (Some asked) uses r
+  outcome-as uses r outcome = subst (λ c. IsOutcome (Some c) uses r) (sym same) outcome
+
+  pub others-as : (reach_before reach_now faults_before faults_now : List ℕ → ℕ) (reads_before reads_now : List ℕ → List Read)
       → NoOthers (Some command) reach_before reach_now faults_before faults_now reads_before reads_now
-  others-stay reach_before reach_now faults_before faults_now reads_before reads_now stay = record {
-    reach = λ other not. stay.reach other (λ same. not (sym (same ∙ is)));
-    faults = λ other not. stay.faults other (λ same. not (sym (same ∙ is)));
-    reads = λ other not. stay.reads other (λ same. not (sym (same ∙ is)));
-  }
+      → NoOthers (Some asked) reach_before reach_now faults_before faults_now reads_before reads_now
+  others-as reach_before reach_now faults_before faults_now reads_before reads_now stay =
+      subst (λ c. NoOthers (Some c) reach_before reach_now faults_before faults_now reads_before reads_now) (sym same) stay
 
 -- what holds of the command that the words are
 module _ {A : Type 0} (seen : A → Command) (made : Option A) (command : Option Command) (asked : A)
@@ -129,8 +196,8 @@ module _ {A : Type 0} (seen : A → Command) (made : Option A) (command : Option
   named-by : Some (seen asked) ≡ command
   named-by = ap (option_map seen) (sym is) ∙ of_words
 
-  pub known-by : (names : List (List ℕ)) → HasFile names command → Contains names (file_of (seen asked))
-  known-by names known = subst (HasFile names) (sym named-by) known
+  pub known-by : (names : List (List ℕ)) → HasFiles names command → All (Contains names) (files_of (seen asked))
+  known-by names known = subst (HasFiles names) (sym named-by) known
 
   pub outcome-by : (uses : List ℕ → Use) (r : Report) → IsOutcome (Some (seen asked)) uses r → IsOutcome command uses r
   outcome-by uses r outcome = subst (λ k. IsOutcome k uses r) named-by outcome
@@ -153,53 +220,65 @@ answered command uses r s outcome (inl same) = subst (IsOutcome command uses) (s
 answered command uses r s outcome (inr none) = no_memory none
 
 -- the only judgement of status 0 is that of a verified set
-earned : (u : Use) (bytes : List ℕ) (r : Report) → IsRead u bytes → IsJudgement bytes r → status_of r ≡ 0 → HasHeadline u r
+earned : (u : Use) (bytes : List ℕ) (r : Report) → IsRead u (limit_of Set) bytes → IsJudgement bytes r → status_of r ≡ 0 → HasHeadline u r
 earned u bytes report.Usage file means zero_is = absurd means
 earned u bytes report.ReadFault file means zero_is = absurd means
 earned u bytes (report.TooLong which) file means zero_is = absurd means
 earned u bytes report.NoMemory file means zero_is = absurd (omega arith)
 earned u bytes (report.Refused fault) file means zero_is = absurd (omega arith)
 earned u bytes (report.Printed tree) file means zero_is = absurd means
-earned u bytes report.Unbuilt file means zero_is = absurd (omega arith)
-earned u bytes report.Points file means zero_is = absurd (omega arith)
-earned u bytes (report.Improper title) file means zero_is = absurd (omega arith)
+earned u bytes (report.NatStops n) file means zero_is = absurd (omega arith)
+earned u bytes (report.Fails T n req out state short) file means zero_is = absurd (omega arith)
 earned u bytes (report.Verified S list) file means zero_is =
     record { set = S; list = list; bytes = bytes; verified = refl; file = file; means = means }
 earned u bytes (report.Refuted S list scan) file means zero_is = absurd (omega arith)
+earned u bytes (report.Gap T k state) file means zero_is = absurd (omega arith)
+earned u bytes (report.Overlap T k first second state) file means zero_is = absurd (omega arith)
+earned u bytes (report.OutOfRange T k cell state) file means zero_is = absurd (omega arith)
+earned u bytes (report.Spent T subject tree short) file means zero_is = absurd (omega arith)
+earned u bytes (report.Agree scans) file means zero_is = absurd means
+earned u bytes (report.Differ scan) file means zero_is = absurd means
+earned u bytes (report.TraceRefused fault) file means zero_is = absurd means
+earned u bytes (report.NatRefuses scan) file means zero_is = absurd means
 
 -- the only judgement of status 1 is that of a refuted set
-differed : (u : Use) (bytes : List ℕ) (r : Report) → IsRead u bytes → IsJudgement bytes r → status_of r ≡ 1 → HasRefutation u r
+differed : (u : Use) (bytes : List ℕ) (r : Report) → IsRead u (limit_of Set) bytes → IsJudgement bytes r → status_of r ≡ 1
+    → HasRefutation u r
 differed u bytes report.Usage file means one_is = absurd means
 differed u bytes report.ReadFault file means one_is = absurd means
 differed u bytes (report.TooLong which) file means one_is = absurd means
 differed u bytes report.NoMemory file means one_is = absurd (omega arith)
 differed u bytes (report.Refused fault) file means one_is = absurd (omega arith)
 differed u bytes (report.Printed tree) file means one_is = absurd means
-differed u bytes report.Unbuilt file means one_is = absurd (omega arith)
-differed u bytes report.Points file means one_is = absurd (omega arith)
-differed u bytes (report.Improper title) file means one_is = absurd (omega arith)
+differed u bytes (report.NatStops n) file means one_is = absurd (omega arith)
+differed u bytes (report.Fails T n req out state short) file means one_is = absurd (omega arith)
 differed u bytes (report.Verified S list) file means one_is = absurd (omega arith)
+differed u bytes (report.Gap T k state) file means one_is = absurd (omega arith)
+differed u bytes (report.Overlap T k first second state) file means one_is = absurd (omega arith)
+differed u bytes (report.OutOfRange T k cell state) file means one_is = absurd (omega arith)
+differed u bytes (report.Spent T subject tree short) file means one_is = absurd (omega arith)
+differed u bytes (report.Agree scans) file means one_is = absurd means
+differed u bytes (report.Differ scan) file means one_is = absurd means
+differed u bytes (report.TraceRefused fault) file means one_is = absurd means
+differed u bytes (report.NatRefuses scan) file means one_is = absurd means
 differed u bytes (report.Refuted S list scan) file means one_is =
     record { set = S; list = list; scan = scan; bytes = bytes; refuted = refl; file = file; means = means }
 
 module _ (command : Option Command) (uses : List ℕ → Use) (r : Report) (outcome : IsOutcome command uses r) where
   -- an outcome with a status below 4 tells what the bytes mean to the command
-  content-below : (n : ℕ) → n < 4 → status_of r ≡ n → (asked : Command) → command ≡ Some asked
-      → (bytes : List ℕ) × IsRead (uses (file_of asked)) bytes × Means asked bytes r
+  pub content-below : (n : ℕ) → n < 4 → status_of r ≡ n → (asked : Command) → command ≡ Some asked → Means uses asked r
   content-below n low status asked named = elim outcome [
     | usage none is ↦ absurd (none-some asked (sym none ∙ named))
     | read_fault file names cause is ↦ let five = ap status_of is in absurd (omega (arith, low, status, five))
-    | too_long file names cause is ↦ let ten = ap status_of is in absurd (omega (arith, low, status, ten))
+    | too_long other same which file kind cause is ↦ let ten = ap status_of is in absurd (omega (arith, low, status, ten))
     | no_memory is ↦ let seven = ap status_of is in absurd (omega (arith, low, status, seven))
-    | content other same bytes read means ↦
-        let e : other ≡ asked = same_Some other asked (sym same ∙ named) in
-        (bytes, subst (λ c. IsRead (uses (file_of c)) bytes) e read, subst (λ c. Means c bytes r) e means)
+    | content other same means ↦ subst (λ c. Means uses c r) (same_Some other asked (sym same ∙ named)) means
   ]
 
 module _ (sink_before sink_now : ℕ) (ended : Ended) (status : HasStatus sink_before sink_now ended) (command : Option Command)
     (uses : List ℕ → Use) (outcome : IsOutcome command uses ended.report) where
   -- a status below 6 is the report's
-  own : (n : ℕ) → ended.status ≡ n → (n ≡ 6 → ⊥) → status_of ended.report ≡ n
+  pub own : (n : ℕ) → ended.status ≡ n → (n ≡ 6 → ⊥) → status_of ended.report ≡ n
   own n is other = elim status [
     | inl same ↦ sym same ∙ is
     | inr six ↦ absurd (other (sym is ∙ six.0))
@@ -217,72 +296,111 @@ module _ (sink_before sink_now : ℕ) (ended : Ended) (status : HasStatus sink_b
       let (bytes, read, means) = content-below command uses ended.report outcome 1 (omega arith) status (verify file) named in
       differed (uses file) bytes ended.report read means status
 
+-- a list of one file has no other
+only : (file other : List ℕ) → Contains (file ∷ []) other → other ≡ file
+only file other (zero, less, is) = sym is
+only file other (suc k, less, is) = absurd (omega (arith, less))
+
 -- what can be had is what was read
-read-is : (u : Use) (bytes read : List ℕ) → CanBeRead u bytes → IsRead u read → bytes ≡ read
-read-is u bytes read (inl can) file = sym (file.whole bytes can.0)
-read-is u bytes read (inr can) file = can.1 ∙ sym file.given
+pub read-is : (u : Use) (limit : ℕ) (bytes read : List ℕ) → CanBeRead u limit bytes → IsRead u limit read → bytes ≡ read
+read-is u limit bytes read (inl can) file = sym (file.whole bytes can.0)
+read-is u limit bytes read (inr can) file = can.1 ∙ sym file.given
 
 -- a fault that came once has risen
 rises : (before now : ℕ) → now ≡ one_more before → Rose before now
 rises before now is = subst (λ n. one_more before ≤ n) (sym is) (omega arith)
 
 -- no read came too far
-not-long : (u : Use) (bytes : List ℕ) → CanBeRead u bytes → IsTooLong u.content u.reads set_limit u.reach → ⊥
-not-long u bytes (inl can) long = omega (arith, long.longer bytes can.0, can.1)
-not-long u bytes (inr can) long = omega (arith, long.far, can.2)
+pub not-long : (u : Use) (limit : ℕ) (bytes : List ℕ) → CanBeRead u limit bytes → IsTooLong u.content u.reads limit u.reach → ⊥
+not-long u limit bytes (inl can) long = omega (arith, long.longer bytes can.0, can.1)
+not-long u limit bytes (inr can) long = omega (arith, long.far, can.2)
 
--- where the bytes of a command's file can be had and its faults didn't rise, the report tells what they mean; want of memory is free
+-- where no file of a command is too long and the faults of none rose, the report tells what their bytes mean; want of memory is free
+pub content-or-none : (command : Option Command) (uses : List ℕ → Use) (r : Report) → IsOutcome command uses r
+    → (asked : Command) → command ≡ Some asked
+    → ((which : Which) (file : List ℕ) → file_for asked which ≡ Some file
+    → IsTooLong (uses file).content (uses file).reads (limit_of which) (uses file).reach → ⊥)
+    → ((file : List ℕ) → Contains (files_of asked) file → Rose (uses file).faults_before (uses file).faults_now → ⊥)
+    → Means uses asked r ⊎ (r ≡ report.NoMemory)
+content-or-none command uses r outcome asked named short still = elim outcome [
+  | usage none is ↦ absurd (none-some asked (sym none ∙ named))
+  | read_fault file names cause is ↦
+      absurd (still file (subst (λ c. Names c file) named names) (rises (uses file).faults_before (uses file).faults_now cause.once))
+  | too_long other same which file kind cause is ↦
+      absurd (short which file (subst (λ c. file_for c which ≡ Some file) (same_Some other asked (sym same ∙ named)) kind) cause)
+  | no_memory is ↦ inr is
+  | content other same means ↦ inl (subst (λ c. Means uses c r) (same_Some other asked (sym same ∙ named)) means)
+]
+
+-- the same of a command that reads the file of a set alone, whose bytes can be had
 module _ (command : Option Command) (uses : List ℕ → Use) (r : Report) (outcome : IsOutcome command uses r) (asked : Command)
-    (named : command ≡ Some asked) (bytes : List ℕ) (can : CanBeRead (uses (file_of asked)) bytes)
-    (still : Rose (uses (file_of asked)).faults_before (uses (file_of asked)).faults_now → ⊥) where
-  own-file : (file : List ℕ) → Names command file → file_of asked ≡ file
-  own-file file names = subst (λ k. Names k file) named names
+    (named : command ≡ Some asked) (file bytes : List ℕ) (reads : files_of asked ≡ file ∷ [])
+    (kind : (which : Which) (other : List ℕ) → file_for asked which ≡ Some other → (which ≡ Set) × (other ≡ file))
+    (can : CanBeRead (uses file) (limit_of Set) bytes) (still : Rose (uses file).faults_before (uses file).faults_now → ⊥) where
+  short : (which : Which) (other : List ℕ) → file_for asked which ≡ Some other
+      → IsTooLong (uses other).content (uses other).reads (limit_of which) (uses other).reach → ⊥
+  short which other is long =
+      let (of_set, same) = kind which other is in
+      not-long (uses file) (limit_of Set) bytes can
+      (subst (λ w. IsTooLong (uses file).content (uses file).reads (limit_of w) (uses file).reach) of_set
+      (subst (λ f. IsTooLong (uses f).content (uses f).reads (limit_of which) (uses f).reach) same long))
 
-  pub content-or-none : Means asked bytes r ⊎ (r ≡ report.NoMemory)
-  content-or-none = elim outcome [
-    | usage none is ↦ absurd (none-some asked (sym none ∙ named))
-    | read_fault file names cause is ↦
-        absurd (still (subst (λ f. Rose (uses f).faults_before (uses f).faults_now) (sym (own-file file names))
-        (rises (uses file).faults_before (uses file).faults_now cause.once)))
-    | too_long file names cause is ↦
-        absurd (not-long (uses (file_of asked)) bytes can
-        (subst (λ f. IsTooLong (uses f).content (uses f).reads set_limit (uses f).reach) (sym (own-file file names)) cause))
-    | no_memory is ↦ inr is
-    | content other same read file means ↦
-        let e : other ≡ asked = same_Some other asked (sym same ∙ named) in
-        let had = read-is (uses (file_of asked)) bytes read can (subst (λ c. IsRead (uses (file_of c)) read) e file) in
-        inl (subst (λ text. Means asked text r) (sym had) (subst (λ c. Means c read r) e means))
-  ]
+  quiet : (other : List ℕ) → Contains (files_of asked) other → Rose (uses other).faults_before (uses other).faults_now → ⊥
+  quiet other names rose =
+      still (subst (λ f. Rose (uses f).faults_before (uses f).faults_now)
+      (only file other (subst (λ files. Contains files other) reads names)) rose)
 
--- each judgement but the verdict has a cause that isn't there
-decided : OneSet → (u : Use) (S : Tables) (can : CanBeJudged u S) (r : Report) → IsJudgement can.bytes r → IsVerdictOn S r
-decided one_set u S can report.Usage means = means
-decided one_set u S can report.ReadFault means = means
-decided one_set u S can (report.TooLong which) means = means
-decided one_set u S can (report.Refused fault) means =
-    means.none can.spelled.tree can.spelled.spelled can.spelled.no_fault
-    (subst (λ (parts : Parts). HasNoBlockFault parts.vars parts.blocks) can.spelled.same can.blocks)
-decided one_set u S can (report.Printed tree) means = means
-decided one_set u S can report.NoMemory means = tt
-decided one_set u S can report.Unbuilt means =
-    let (T, spelled, other) = means in
-    other can.small (subst (IsSetOf can.small) (sym (one_set can.bytes T S spelled can.spelled)) can.form)
-decided one_set u S can report.Points means =
-    let (T, spelled, points) = means in
-    can.few (subst HasPoints (one_set can.bytes T S spelled can.spelled) points)
-decided one_set u S can (report.Improper title) means =
-    let (T, spelled, few, first) = means in
-    let same = one_set can.bytes T S spelled can.spelled in
-    first.improper (subst AllProper (sym same) can.proper first.place first.table first.there)
-decided one_set u S can (report.Verified T list) means = one_set can.bytes T S means.spelled can.spelled
-decided one_set u S can (report.Refuted T list scan) means = one_set can.bytes T S means.spelled can.spelled
+  pub meant-or-none : Means uses asked r ⊎ (r ≡ report.NoMemory)
+  meant-or-none = content-or-none command uses r outcome asked named short quiet
 
-pub complete : OneSet → (command : Option Command) (uses : List ℕ → Use) (r : Report) → IsOutcome command uses r
-    → IsComplete command uses r
-complete one_set command uses r outcome file S named can still =
-    elim (content-or-none command uses r outcome (verify file) named can.bytes can.file still) [
-      | inl means ↦ decided one_set (uses file) S can r means
-      | inr none ↦ subst (IsVerdictOn S) (sym none) tt
+-- what is found of a table
+pub gap-shown : (S : Tables) (k : ℕ) (values : List ℤ) (labels : List Label) → IsCover S false (cover.Gap k values labels)
+    → IsShownAt S (3 * k + 1) k gap NoCell values labels
+gap-shown S k values labels (found, before) = found.1
+
+pub overlap-shown : (S : Tables) (k : ℕ) (first second : ℕ × ℕ) (values : List ℤ) (labels : List Label)
+    → IsCover S false (cover.Overlap k first second values labels)
+    → IsShownAt S (3 * k + 2) k overlap (AreFirstTwo first second) values labels
+overlap-shown S k first second values labels (found, before) = found.1
+
+pub range-shown : (S : Tables) (k : ℕ) (cell : ℕ × ℕ) (values : List ℤ) (labels : List Label)
+    → IsCover S false (cover.OutOfRange k cell values labels)
+    → IsShownAt S (3 * k + 3) k range (IsFirstBeyond S cell) values labels
+range-shown S k cell values labels (found, before) = found.1
+
+pub spent-at : (S : Tables) (n : ℕ) (tree : cert.Tree) → IsCover S false (cover.Spent n tree) → IsSpentAt S n tree
+spent-at S n tree (found, before) = let (same, some, last, spent) = found in spent
+
+-- a proper table of the set that bytes spell shows no fault
+pub shows-no-fault : ProperShowsNone → OneSet → (bytes : List ℕ) (S : Tables) → IsSetOfText bytes S → AllProper S
+    → (T : Tables) → IsSetOfText bytes T → (n k : ℕ) (fault : Fault) (Named : Grid → View → Type 0) (values : List ℤ) (labels : List Label)
+    → IsShownAt T n k fault Named values labels → ⊥
+shows-no-fault shows one_set bytes S spelled_by proper_is T spelled n k fault Named values labels at =
+    let proper = subst AllProper (sym (one_set bytes T S spelled spelled_by)) proper_is in
+    let (V, local, kept) = at.some in
+    (shows T k at.table at.its_table).0 (proper k at.table at.its_table) fault V local (at.each V kept).0
+
+-- `verify` and `print` read the file of a set
+verify-reads : (file : List ℕ) (which : Which) (other : List ℕ) → file_for (verify file) which ≡ Some other
+    → (which ≡ Set) × (other ≡ file)
+verify-reads file Set other is = (refl, same_Some other file (sym is))
+verify-reads file Trace other is = absurd (none-some other is)
+
+print-reads : (file : List ℕ) (which : Which) (other : List ℕ) → file_for (print file) which ≡ Some other → (which ≡ Set) × (other ≡ file)
+print-reads file Set other is = (refl, same_Some other file (sym is))
+print-reads file Trace other is = absurd (none-some other is)
+
+-- what holds of each judgement of the bytes of a set holds of each set that could be had
+pub of-each : (Holds : Tables → Report → Type 0)
+    → ((bytes : List ℕ) (S : Tables) → IsSetOfText bytes S → HasNoBlockFault S.vars S.blocks → (r : Report) → IsJudgement bytes r
+    → Holds S r)
+    → (command : Option Command) (uses : List ℕ → Use) (r : Report) → IsOutcome command uses r → OfEachSet command uses r Holds
+of-each Holds each command uses r outcome file S named can still =
+    elim (meant-or-none command uses r outcome (verify file) named file can.bytes refl (verify-reads file) can.file still) [
+      | inl means ↦
+          each can.bytes S can.spelled can.blocks r
+          (subst (λ bytes. IsJudgement bytes r) (sym (read-is (uses file) (limit_of Set) can.bytes means.0 can.file means.1)) means.2)
+      | inr none ↦ subst (Holds S) (sym none) (each can.bytes S can.spelled can.blocks report.NoMemory tt)
     ]
 
 -- the tree that the bytes spell is the one that is printed
@@ -294,15 +412,24 @@ printed u tree can report.NoMemory means = inr refl
 printed u tree can (report.Refused fault) means = absurd (means.none tree can.spelled)
 printed u tree can (report.Printed read) means = inl (ap report.Printed (means.alone tree can.spelled))
 printed u tree can report.Usage means = absurd means
-printed u tree can report.Unbuilt means = absurd means
-printed u tree can report.Points means = absurd means
-printed u tree can (report.Improper title) means = absurd means
+printed u tree can (report.NatStops n) means = absurd means
+printed u tree can (report.Fails T n req out state short) means = absurd means
 printed u tree can (report.Verified S list) means = absurd means
 printed u tree can (report.Refuted S list scan) means = absurd means
+printed u tree can (report.Gap T k state) means = absurd means
+printed u tree can (report.Overlap T k first second state) means = absurd means
+printed u tree can (report.OutOfRange T k cell state) means = absurd means
+printed u tree can (report.Spent T subject spent short) means = absurd means
+printed u tree can (report.Agree scans) means = absurd means
+printed u tree can (report.Differ scan) means = absurd means
+printed u tree can (report.TraceRefused fault) means = absurd means
+printed u tree can (report.NatRefuses scan) means = absurd means
 
 pub prints : (command : Option Command) (uses : List ℕ → Use) (r : Report) → IsOutcome command uses r → PrintsAll command uses r
 prints command uses r outcome file tree named can still =
-    elim (content-or-none command uses r outcome (print file) named can.bytes can.file still) [
-      | inl means ↦ printed (uses file) tree can r means
+    elim (meant-or-none command uses r outcome (print file) named file can.bytes refl (print-reads file) can.file still) [
+      | inl means ↦
+          printed (uses file) tree can r
+          (subst (λ bytes. IsPrint bytes r) (sym (read-is (uses file) (limit_of Set) can.bytes means.0 can.file means.1)) means.2)
       | inr none ↦ inr none
     ]

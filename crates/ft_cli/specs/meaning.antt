@@ -1,5 +1,5 @@
--- What a report means, its text and its status.
+-- What a report means, and the status of the program.
+pub mod Completeness
 pub mod Exit
-pub mod FaultText
 pub mod Judgement
-pub mod Report
+pub mod Replay

@@ -1,5 +1,5 @@
 ghost use Rattle.std.specs.Prelude.{◌≡◌, map, option_map, string_bytes};
-ghost use Rattle.ft_cli.specs.Top.{command_named, command_of, file_of};
+ghost use Rattle.ft_cli.specs.Top.{command_named, command_of, command_on_two};
 ghost use Rattle.ft_cli.specs.stages.Command.{asked_by};
 
 /// What the words ask for.
@@ -9,18 +9,8 @@ pub enum Command<'w> {
     Verify(&'w str),
     /// The canonical text of the set in this file.
     Print(&'w str),
-}
-
-impl<'w> Command<'w> {
-    /// The file that it reads.
-    pub fn file(&self) -> &'w str
-        ensures { result.now ≡ file_of (asked_by self.now) }
-    {
-        match self {
-            Command::Verify(file) => file,
-            Command::Print(file) => file,
-        }
-    }
+    /// What the two sides of the set in this file do on the trace in the other.
+    Replay { file: &'w str, trace: &'w str },
 }
 
 /// The command of this name on this file.
@@ -34,12 +24,23 @@ fn command_named<'w>(name: &str, file: &'w str) -> Option<Command<'w>>
     }
 }
 
+/// The command of this name on the file of a set and that of a trace.
+fn command_on_two<'w>(name: &str, file: &'w str, trace: &'w str) -> Option<Command<'w>>
+    ensures { option_map asked_by result ≡ command_on_two name.now file.now trace.now }
+{
+    match name {
+        "replay" => Some(Command::Replay { file, trace }),
+        _ => None,
+    }
+}
+
 /// The command that the words are.
 pub fn command_of(words: &[String]) -> Option<Command<'_>>
     ensures { option_map asked_by result ≡ command_of (map string_bytes words.now) }
 {
     match words {
         [name, file] => command_named(name.as_str(), file.as_str()),
+        [name, file, trace] => command_on_two(name.as_str(), file.as_str(), trace.as_str()),
         _ => None,
     }
 }

@@ -1,4 +1,4 @@
-use crate::report::Report;
+use ft_report::Report;
 
 /// How the call ended: the status that the program exits with, and its report.
 #[derive(Drop)]

@@ -1,123 +1,225 @@
-ghost use Rattle.std.specs.Prelude.{◌≡◌, ◌<◌, ◌-◌, ◌^◌, length, IfOk, IfErr, OnOk};
+//! The verdict on a set, stage by stage: each stage gives what the next one needs, or the report that ends the verdict.
+ghost use Rattle.std.specs.Prelude.{◌≡◌, ◌<◌, ◌-◌, ◌^◌, false, length, IfOk, IfErr};
+ghost use Rattle.ft_mean.specs.meaning.Proper.{AllProper};
+ghost use Rattle.ft_core.specs.meaning.Order.{IsOrder};
+ghost use Rattle.ft_blocks.specs.meaning.Cycles.{block_reads};
+ghost use Rattle.ft_blocks.specs.meaning.Faults.{HasNoBlockFault};
+ghost use Rattle.ft_blocks.specs.meaning.Goals.{HasGoals};
 ghost use Rattle.ft_admit.specs.meaning.SetFaults.{IsSetOfText};
-ghost use Rattle.ft_small.specs.meaning.Laws.{steady};
-ghost use Rattle.ft_small.specs.meaning.SetOf.{IsSetOf};
+ghost use Rattle.ft_compose.specs.meaning.Decided.{IsBlocks};
+ghost use Rattle.ft_unroll.specs.meaning.Found.{HasAllowed, IsDeep};
 ghost use Rattle.ft_cli.specs.meaning.Judgement.{IsJudgement};
-ghost use Rattle.ft_cli.specs.stages.Judging.{DiffersFirstAt, DoesRefine, HasFewPoints, HasProperTables, IsReportFor, IsReportOn};
+ghost use Rattle.ft_cli.specs.meaning.Replay.{IsEarly};
+ghost use Rattle.ft_cli.specs.stages.Judging.{IsAdmitted, IsListed, IsReportOn, IsSearched};
 
 use crate::refusing::refused;
-use crate::report::Report;
 use ft_admit::admit;
 use ft_base::NoMemory;
-use ft_core::{History, Tables};
-use ft_small::{
-    SmallSet, Unlike, first_difference, has_points, improper_title, small_of, steady_is_allowed,
-};
+use ft_blocks::Graph;
+use ft_compose::{Blocks, Cells, decide_blocks};
+use ft_core::{History, State, Tables};
+use ft_cover::{Cover, cover};
+use ft_report::{Report, Short, Subject};
+use ft_search::SpentTree;
+use ft_unroll::{Lists, Refute, allowed_list, refute};
 use std::alloc::Global;
 
-/// A list of so many scans of one value.
-fn steady_list(alloc: Global, scans: u32, value: i64) -> Result<History, NoMemory>
-    ensures { IfOk result (λ list. list ≡ steady scans value) }
-{
-    let mut list = History::new(alloc);
-    for _ in 0..scans {
-        list.add(&[value])?;
-    }
-    Ok(list)
-}
-
-/// The checked set that a text spells.
-fn admitted(alloc: Global, text: &[u8]) -> Result<Tables, Report>
+/// The checked set that a text spells, with the order of its blocks.
+fn admitted(alloc: Global, text: &[u8]) -> Result<(Tables, Graph), Report>
     requires { length text.now < 2 ^ 32 - 1 }
-    ensures set { IfOk result (IsSetOfText text.now) }
+    ensures admitted { IfOk result (λ kept. IsAdmitted text.now kept.0 kept.1) }
     ensures stopped { IfErr result (IsJudgement text.now) }
+    ensures early { IfErr result IsEarly }
 {
     match admit(alloc, text) {
-        Ok((tables, _)) => Ok(tables),
+        Ok(kept) => Ok(kept),
         Err(fault) => Err(refused(fault)),
     }
 }
 
-/// Stops where the set is of another form than those that are judged.
-fn small_set(alloc: Global, tables: &Tables) -> Result<SmallSet, Report>
-    ensures is { IfOk result (λ small. IsSetOf small tables.now) }
-    ensures stopped { IfErr result (IsReportOn tables.now) }
+/// Stops at the first obligation of a table that isn't closed. Else it gives the set back.
+fn covered(alloc: Global, tables: Tables) -> Result<Tables, Report>
+    ensures same { IfOk result (λ kept. kept ≡ tables) }
+    ensures proper { IfOk result AllProper }
+    ensures stopped { IfErr result (IsReportOn tables) }
+    ensures early { IfErr result IsEarly }
 {
-    match small_of(alloc, tables) {
-        Ok(small) => Ok(small),
-        Err(Unlike::Other) => Err(Report::Unbuilt),
-        Err(Unlike::NoMemory) => Err(Report::NoMemory),
+    let found = cover(alloc, &tables, false)?;
+    match found {
+        Cover::Proper { .. } => Ok(tables),
+        Cover::Gap {
+            table,
+            values,
+            labels,
+        } => Err(Report::Gap {
+            tables,
+            table,
+            state: State { labels, values },
+        }),
+        Cover::Overlap {
+            table,
+            first,
+            second,
+            values,
+            labels,
+        } => Err(Report::Overlap {
+            tables,
+            table,
+            first,
+            second,
+            state: State { labels, values },
+        }),
+        Cover::OutOfRange {
+            table,
+            cell,
+            values,
+            labels,
+        } => Err(Report::OutOfRange {
+            tables,
+            table,
+            cell,
+            state: State { labels, values },
+        }),
+        Cover::Spent { obligation, tree } => Err(Report::Spent {
+            tables,
+            subject: Subject::Obligation(obligation),
+            tree,
+            short: None,
+        }),
     }
 }
 
-/// Stops where a range that is tried has too many values.
-fn with_few_points(small: &SmallSet) -> Result<(), Report>
-    ensures few { OnOk result (HasFewPoints small.now) }
-    ensures stopped { IfErr result (IsReportFor small.now) }
+/// The checked set that a text spells, with proper tables.
+pub(crate) fn proper_set(alloc: Global, text: &[u8]) -> Result<Tables, Report>
+    requires { length text.now < 2 ^ 32 - 1 }
+    ensures set { IfOk result (IsSetOfText text.now) }
+    ensures blocks { IfOk result (λ tables. HasNoBlockFault tables.vars tables.blocks) }
+    ensures proper { IfOk result AllProper }
+    ensures stopped { IfErr result (IsJudgement text.now) }
+    ensures early { IfErr result IsEarly }
 {
-    if has_points(small) {
-        Err(Report::Points)
-    } else {
-        Ok(())
+    let (tables, _) = admitted(alloc, text)?;
+    let kept = covered(alloc, tables)?;
+    Ok(kept)
+}
+
+/// Stops where the environment of a set with proper tables allows no list of some length up to its depth. Else it gives the set back
+/// with an allowed list of so many scans.
+fn listed(alloc: Global, tables: Tables) -> Result<(Tables, History), Report>
+    requires { AllProper tables }
+    ensures listed { IfOk result (IsListed tables) }
+    ensures stopped { IfErr result (IsReportOn tables) }
+{
+    let found = allowed_list(alloc, &tables)?;
+    match found {
+        Lists::List { history } => Ok((tables, history)),
+        Lists::Stops { length } => Err(Report::NatStops { length }),
+        Lists::SpentAt { length, tree } => Err(Report::Spent {
+            tables,
+            subject: Subject::NatList(length),
+            tree,
+            short: None,
+        }),
     }
 }
 
-/// Stops at the first table that isn't proper.
-fn with_proper_tables(alloc: Global, small: &SmallSet) -> Result<(), Report>
-    requires { HasFewPoints small.now }
-    ensures proper { OnOk result (HasProperTables small.now) }
-    ensures stopped { IfErr result (IsReportFor small.now) }
+/// Stops where a short list shows that the design of a set with proper tables differs from its requirement. Else it gives the set back
+/// with what is known of such lists.
+fn without_difference(alloc: Global, tables: Tables) -> Result<(Tables, Short), Report>
+    requires proper { AllProper tables }
+    requires lists { HasAllowed tables tables.depth }
+    ensures searched { IfOk result (IsSearched tables) }
+    ensures stopped { IfErr result (IsReportOn tables) }
 {
-    let improper = improper_title(alloc, small)?;
-    match improper {
-        Some(title) => Err(Report::Improper { title }),
-        None => Ok(()),
+    let found = refute(alloc, &tables)?;
+    match found {
+        Refute::List { history, scan } => Err(Report::Refuted {
+            tables,
+            list: history,
+            scan,
+        }),
+        Refute::Safe => {
+            let length = tables.depth;
+            Ok((tables, Short::Safe { length }))
+        }
+        Refute::SpentAt { length, tree } => Ok((tables, Short::SpentAt { length, tree })),
     }
 }
 
-/// The report on a set with proper tables whose design puts out something else at this monitored value.
-fn refuted(alloc: Global, tables: Tables, small: &SmallSet, value: i64) -> Result<Report, NoMemory>
-    requires is { IsSetOf small.now tables }
-    requires few { HasFewPoints small.now }
-    requires proper { HasProperTables small.now }
-    requires differs { DiffersFirstAt small.now value }
-    ensures { IfOk result (IsReportOn tables) }
+/// The report on a set of which a fact fails at a state.
+fn failing(
+    alloc: Global,
+    tables: Tables,
+    obligation: u32,
+    cells: Cells,
+    state: State,
+) -> Result<Report, Report>
+    requires proper { AllProper tables }
+    requires lists { HasAllowed tables tables.depth }
+    requires found { IsBlocks tables false (Blocks.Fails obligation cells state.values state.labels) }
+    ensures ended { IfOk result (IsReportOn tables) }
+    ensures stopped { IfErr result (IsReportOn tables) }
 {
-    steady_is_allowed();
-    let list = steady_list(alloc, 1, value)?;
-    Ok(Report::Refuted {
+    let (tables, short) = without_difference(alloc, tables)?;
+    Ok(Report::Fails {
         tables,
-        list,
-        scan: 0,
+        obligation,
+        req: cells.req,
+        out: cells.out,
+        state,
+        short,
     })
 }
 
-/// Stops where the design of a set with proper tables puts out something else than its requirement asks for. Else it gives the set back.
-fn without_difference(alloc: Global, tables: Tables, small: &SmallSet) -> Result<Tables, Report>
-    requires is { IsSetOf small.now tables }
-    requires few { HasFewPoints small.now }
-    requires proper { HasProperTables small.now }
-    ensures same { IfOk result (λ kept. kept ≡ tables) }
-    ensures right { OnOk result (DoesRefine small.now) }
+/// The report on a set of whose facts a search was spent.
+fn spent(alloc: Global, tables: Tables, obligation: u32, tree: SpentTree) -> Result<Report, Report>
+    requires proper { AllProper tables }
+    requires lists { HasAllowed tables tables.depth }
+    requires found { IsBlocks tables false (Blocks.Spent obligation tree) }
+    ensures ended { IfOk result (IsReportOn tables) }
     ensures stopped { IfErr result (IsReportOn tables) }
 {
-    match first_difference(small) {
-        Some(value) => Err(refuted(alloc, tables, small, value)?),
-        None => Ok(tables),
+    let (tables, short) = without_difference(alloc, tables)?;
+    Ok(Report::Spent {
+        tables,
+        subject: Subject::Obligation(obligation),
+        tree,
+        short: Some(short),
+    })
+}
+
+/// The report on a set with proper tables and an allowed list, by what is found of its facts.
+fn decided(alloc: Global, tables: Tables, list: History, found: Blocks) -> Result<Report, Report>
+    requires proper { AllProper tables }
+    requires deep { IsDeep tables list }
+    requires found { IsBlocks tables false found }
+    ensures ended { IfOk result (IsReportOn tables) }
+    ensures stopped { IfErr result (IsReportOn tables) }
+{
+    match found {
+        Blocks::AllShown { .. } => Ok(Report::Verified { tables, list }),
+        Blocks::Fails {
+            obligation,
+            cells,
+            values,
+            labels,
+        } => failing(alloc, tables, obligation, cells, State { labels, values }),
+        Blocks::Spent { obligation, tree } => spent(alloc, tables, obligation, tree),
     }
 }
 
-/// The report on a set with proper tables whose design puts out what the requirement asks for.
-fn verified(alloc: Global, tables: Tables, small: &SmallSet) -> Result<Report, NoMemory>
-    requires is { IsSetOf small.now tables }
-    requires few { HasFewPoints small.now }
-    requires proper { HasProperTables small.now }
-    requires right { DoesRefine small.now }
-    ensures { IfOk result (IsReportOn tables) }
+/// The report on a set with proper tables, from the stages after that.
+fn judged(alloc: Global, tables: Tables, graph: &Graph) -> Result<Report, Report>
+    requires proper { AllProper tables }
+    requires blocks { HasNoBlockFault tables.vars tables.blocks }
+    requires order { IsOrder (block_reads tables.blocks) graph.now.order }
+    requires goals { HasGoals tables.vars tables.blocks }
+    ensures ended { IfOk result (IsReportOn tables) }
+    ensures stopped { IfErr result (IsReportOn tables) }
 {
-    steady_is_allowed();
-    let list = steady_list(alloc, tables.depth, small.variables.monitored.range.lo())?;
-    Ok(Report::Verified { tables, list })
+    let (tables, list) = listed(alloc, tables)?;
+    let found = decide_blocks(alloc, &tables, graph, false)?;
+    decided(alloc, tables, list, found)
 }
 
 /// The report on the set that a text spells, from the last stage of its verdict or from the one that stops it.
@@ -126,12 +228,9 @@ fn verdict(alloc: Global, text: &[u8]) -> Result<Report, Report>
     ensures ended { IfOk result (IsJudgement text.now) }
     ensures stopped { IfErr result (IsJudgement text.now) }
 {
-    let tables = admitted(alloc, text)?;
-    let small = small_set(alloc, &tables)?;
-    with_few_points(&small)?;
-    with_proper_tables(alloc, &small)?;
-    let kept = without_difference(alloc, tables, &small)?;
-    Ok(verified(alloc, kept, &small)?)
+    let (tables, graph) = admitted(alloc, text)?;
+    let tables = covered(alloc, tables)?;
+    judged(alloc, tables, &graph)
 }
 
 /// What the set that a text spells comes to. The text is shorter than 2^32 - 1 bytes.

@@ -4,16 +4,14 @@
 mod command;
 mod ended;
 mod exit;
-mod faults;
+mod fetching;
 mod judging;
+mod law;
 mod refusing;
-mod rendering;
-mod report;
+mod replaying;
 mod top;
 
 pub use ended::Ended;
 pub use exit::exit_of;
 pub use judging::report_on_text;
-pub use rendering::report_text;
-pub use report::{Report, Which};
 pub use top::{file_words, run};

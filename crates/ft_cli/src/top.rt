@@ -1,29 +1,30 @@
 ghost use Rattle.std.specs.Prelude.{◌≡◌, ◌⊎◌, ◌<◌, ◌-◌, ◌^◌, Some, List, ℕ, drop, length, map, string_bytes};
-ghost use Rattle.std.specs.List.{Contains};
+ghost use Rattle.std.specs.List.{All, Contains};
 ghost use Rattle.ft_port.specs.Causes.{one_more};
+ghost use Rattle.ft_port.specs.Shelf.{OthersStay};
 ghost use Rattle.ft_cli.specs.meaning.Judgement.{IsPrint};
-ghost use Rattle.ft_cli.specs.meaning.Report.{text_of};
-ghost use Rattle.ft_cli.specs.Top.{command_of, file_of, use_of, verify, Means, NamesKnown, NoOthers, PrintsAll, IsOutcome, HasStatus};
-ghost use Rattle.ft_cli.specs.Top.{Writes, HasHeadline, HasRefutation, IsComplete};
-ghost use Rattle.ft_cli.specs.stages.Command.{asked_by, report_on_error};
+ghost use Rattle.ft_report.specs.meaning.Report.{text_of};
+ghost use Rattle.ft_cli.specs.Top.{command_of, files_of, use_of, print, replay};
+ghost use Rattle.ft_cli.specs.Top.{verify, NamesKnown, NoOthers, PrintsAll, IsOutcome, HasStatus};
+ghost use Rattle.ft_cli.specs.Top.{Writes, HasAgreement, HasHeadline, HasRefutation, OfEachSet, ReplaysAll, ReplaysRefuted};
+ghost use Rattle.ft_cli.specs.meaning.Completeness.{DecidesWithEnough, IsVerdictOn, RefutesDifferent, VerifiesClosed};
+ghost use Rattle.ft_report.specs.meaning.Fitting.{IsFitting};
+ghost use Rattle.ft_cli.specs.stages.Command.{asked_by};
 
 use crate::command::{Command, command_of};
 use crate::ended::Ended;
+use crate::fetching::fetched;
 use crate::judging::report_on_text;
+use crate::law::laws;
 use crate::refusing::unread;
-use crate::rendering::{report_text, status_for};
-use crate::report::{Report, Which};
-use ft_admit::one_set;
+use crate::replaying::replay;
 use ft_base::NoMemory;
 use ft_parse::parse;
-use ft_port::{Failed, FetchError, Shelf, Sink, fetch};
+use ft_port::{Failed, Shelf, Sink};
+use ft_report::{Report, Which, report_text, status_for};
 use std::alloc::Global;
 
-/// The longest file of a set, in bytes.
-const SET_LIMIT: u64 = 4_194_304;
-
 /// The words after the first. Where the words are a form, the names of its files are among these.
-#[tactic(auto, using(crate::proofs::TopLemmas::known))]
 pub fn file_words(words: &[String]) -> &[String]
     ensures rest { result.now ≡ drop 1 words.now }
     ensures names { NamesKnown (map string_bytes words.now) (map string_bytes result.now) }
@@ -31,17 +32,6 @@ pub fn file_words(words: &[String]) -> &[String]
     match words {
         [_, files @ ..] => files,
         [] => words,
-    }
-}
-
-/// The report on a set's file that wasn't fetched.
-fn unfetched(error: FetchError) -> Report
-    ensures { result ≡ report_on_error error }
-{
-    match error {
-        FetchError::Failed => Report::ReadFault,
-        FetchError::TooLong => Report::TooLong(Which::Set),
-        FetchError::NoMemory => Report::NoMemory,
     }
 }
 
@@ -56,20 +46,41 @@ fn print(alloc: Global, text: &[u8]) -> Report
     }
 }
 
-/// What a command says of a text. The text is shorter than 2^32 - 1 bytes.
-fn report_for(alloc: Global, command: &Command, text: &[u8]) -> Report
-    requires { length text.now < 2 ^ 32 - 1 }
-    ensures { Means (asked_by command.now) text.now result }
+/// The verdict on the set in a file.
+fn verify<S: Shelf>(alloc: Global, file: &str, shelf: &mut S) -> Report
+    requires { Contains (S.names shelf.old) file.now }
+    ensures outcome { IsOutcome (Some (verify file.now)) (use_of (S.content shelf.old) (S.reads shelf.new) (S.faults shelf.old)
+        (S.faults shelf.new) (S.reach shelf.new)) result }
+    ensures others { OthersStay file.now (S.reach shelf.old) (S.reach shelf.new) (S.faults shelf.old) (S.faults shelf.new)
+        (S.reads shelf.old) (S.reads shelf.new) }
+    ensures content { S.content shelf.new ≡ S.content shelf.old }
+    ensures names { S.names shelf.new ≡ S.names shelf.old }
 {
-    match command {
-        Command::Verify(_) => report_on_text(alloc, text),
-        Command::Print(_) => print(alloc, text),
+    match fetched(alloc, shelf, file, Which::Set) {
+        Ok(text) => report_on_text(alloc, text.as_slice()),
+        Err(report) => report,
     }
 }
 
-/// What a command says of its file.
-fn report_on_file<S: Shelf>(alloc: Global, command: &Command, shelf: &mut S) -> Report
-    requires { Contains (S.names shelf.old) (file_of (asked_by command.now)) }
+/// The canonical text of the set in a file.
+fn print_file<S: Shelf>(alloc: Global, file: &str, shelf: &mut S) -> Report
+    requires { Contains (S.names shelf.old) file.now }
+    ensures outcome { IsOutcome (Some (print file.now)) (use_of (S.content shelf.old) (S.reads shelf.new) (S.faults shelf.old)
+        (S.faults shelf.new) (S.reach shelf.new)) result }
+    ensures others { OthersStay file.now (S.reach shelf.old) (S.reach shelf.new) (S.faults shelf.old) (S.faults shelf.new)
+        (S.reads shelf.old) (S.reads shelf.new) }
+    ensures content { S.content shelf.new ≡ S.content shelf.old }
+    ensures names { S.names shelf.new ≡ S.names shelf.old }
+{
+    match fetched(alloc, shelf, file, Which::Set) {
+        Ok(text) => print(alloc, text.as_slice()),
+        Err(report) => report,
+    }
+}
+
+/// What a command says of its files.
+fn report_by<S: Shelf>(alloc: Global, command: &Command, shelf: &mut S) -> Report
+    requires { All (Contains (S.names shelf.old)) (files_of (asked_by command.now)) }
     ensures outcome { IsOutcome (Some (asked_by command.now)) (use_of (S.content shelf.old) (S.reads shelf.new) (S.faults shelf.old)
         (S.faults shelf.new) (S.reach shelf.new)) result }
     ensures others { NoOthers (Some (asked_by command.now)) (S.reach shelf.old) (S.reach shelf.new) (S.faults shelf.old)
@@ -77,15 +88,17 @@ fn report_on_file<S: Shelf>(alloc: Global, command: &Command, shelf: &mut S) -> 
     ensures content { S.content shelf.new ≡ S.content shelf.old }
     ensures names { S.names shelf.new ≡ S.names shelf.old }
 {
-    match fetch(alloc, shelf, command.file(), SET_LIMIT) {
-        Ok(text) => report_for(alloc, command, text.as_slice()),
-        Err(error) => unfetched(error),
+    match command {
+        Command::Verify(file) => verify(alloc, file, shelf),
+        Command::Print(file) => print_file(alloc, file, shelf),
+        Command::Replay { file, trace } => replay(alloc, file, trace, shelf),
     }
 }
 
 /// What the words ask for.
 fn report_on<S: Shelf>(alloc: Global, words: &[String], shelf: &mut S) -> Report
     requires { NamesKnown (map string_bytes words.now) (S.names shelf.old) }
+    ensures fitting { IsFitting result }
     ensures outcome { IsOutcome (command_of (map string_bytes words.now))
         (use_of (S.content shelf.old) (S.reads shelf.new) (S.faults shelf.old) (S.faults shelf.new) (S.reach shelf.new)) result }
     ensures others { NoOthers (command_of (map string_bytes words.now)) (S.reach shelf.old) (S.reach shelf.new) (S.faults shelf.old)
@@ -94,7 +107,7 @@ fn report_on<S: Shelf>(alloc: Global, words: &[String], shelf: &mut S) -> Report
     ensures names { S.names shelf.new ≡ S.names shelf.old }
 {
     match command_of(words) {
-        Some(command) => report_on_file(alloc, &command, shelf),
+        Some(command) => report_by(alloc, &command, shelf),
         None => Report::Usage,
     }
 }
@@ -118,6 +131,7 @@ fn write_report<K: Sink>(report: Report, text: &[u8], sink: &mut K) -> Ended
 
 /// Writes a report, or that there was no memory for its text.
 fn answer<K: Sink>(alloc: Global, report: Report, sink: &mut K) -> Ended
+    requires { IsFitting report }
     ensures report { (result.report ≡ report) ⊎ (result.report ≡ Report.NoMemory) }
     ensures status { HasStatus (K.faults sink.old) (K.faults sink.new) result }
     ensures written { Writes (K.taken sink.old) (K.taken sink.new) result }
@@ -139,9 +153,27 @@ pub fn run<S: Shelf, K: Sink>(alloc: Global, words: &[String], shelf: &mut S, si
     ensures refutation { (file : List ℕ) → command_of (map string_bytes words.now) ≡ Some (verify file) → result.status ≡ 1
         → HasRefutation (use_of (S.content shelf.old) (S.reads shelf.new) (S.faults shelf.old) (S.faults shelf.new) (S.reach shelf.new)
         file) result.report }
-    ensures complete { IsComplete (command_of (map string_bytes words.now))
-        (use_of (S.content shelf.old) (S.reads shelf.new) (S.faults shelf.old) (S.faults shelf.new) (S.reach shelf.new)) result.report }
+    ensures complete { OfEachSet (command_of (map string_bytes words.now))
+        (use_of (S.content shelf.old) (S.reads shelf.new) (S.faults shelf.old) (S.faults shelf.new) (S.reach shelf.new)) result.report
+        IsVerdictOn }
+    ensures verifies { OfEachSet (command_of (map string_bytes words.now))
+        (use_of (S.content shelf.old) (S.reads shelf.new) (S.faults shelf.old) (S.faults shelf.new) (S.reach shelf.new)) result.report
+        VerifiesClosed }
+    ensures refutes { OfEachSet (command_of (map string_bytes words.now))
+        (use_of (S.content shelf.old) (S.reads shelf.new) (S.faults shelf.old) (S.faults shelf.new) (S.reach shelf.new)) result.report
+        RefutesDifferent }
+    ensures decides { OfEachSet (command_of (map string_bytes words.now))
+        (use_of (S.content shelf.old) (S.reads shelf.new) (S.faults shelf.old) (S.faults shelf.new) (S.reach shelf.new)) result.report
+        DecidesWithEnough }
     ensures prints { PrintsAll (command_of (map string_bytes words.now))
+        (use_of (S.content shelf.old) (S.reads shelf.new) (S.faults shelf.old) (S.faults shelf.new) (S.reach shelf.new)) result.report }
+    ensures replays { (file trace : List ℕ) → command_of (map string_bytes words.now) ≡ Some (replay file trace) → result.status ≡ 0
+        → HasAgreement (use_of (S.content shelf.old) (S.reads shelf.new) (S.faults shelf.old) (S.faults shelf.new) (S.reach shelf.new)
+        file) (use_of (S.content shelf.old) (S.reads shelf.new) (S.faults shelf.old) (S.faults shelf.new) (S.reach shelf.new) trace)
+        result.report }
+    ensures replays_all { ReplaysAll (command_of (map string_bytes words.now))
+        (use_of (S.content shelf.old) (S.reads shelf.new) (S.faults shelf.old) (S.faults shelf.new) (S.reach shelf.new)) result.report }
+    ensures replays_refuted { ReplaysRefuted (command_of (map string_bytes words.now))
         (use_of (S.content shelf.old) (S.reads shelf.new) (S.faults shelf.old) (S.faults shelf.new) (S.reach shelf.new)) result.report }
     ensures outcome { IsOutcome (command_of (map string_bytes words.now))
         (use_of (S.content shelf.old) (S.reads shelf.new) (S.faults shelf.old) (S.faults shelf.new) (S.reach shelf.new)) result.report }
@@ -153,7 +185,7 @@ pub fn run<S: Shelf, K: Sink>(alloc: Global, words: &[String], shelf: &mut S, si
     ensures content { S.content shelf.new ≡ S.content shelf.old }
     ensures names { S.names shelf.new ≡ S.names shelf.old }
 {
-    one_set();
+    laws();
     let report = report_on(alloc, words, shelf);
     answer(alloc, report, sink)
 }

@@ -28,8 +28,9 @@ use Rattle.ft_oblige.specs.laws.Marked.{are_marks, marked_at, marked_all}
 use Rattle.ft_oblige.specs.laws.Tests.{both_lists}
 use Rattle.ft_oblige.specs.meaning.Blocks.{now_frame, fact_claim, take_claim, use_claim, own, others, block_parts}
 use Rattle.ft_oblige.specs.meaning.Linked.{marked}
+use Rattle.ft_oblige.specs.meaning.Obligations.{of_fact, block_obliged}
 use Rattle.ft_oblige.specs.meaning.States.{slot_spans, fact_true}
-use Rattle.ft_compose.specs.laws.FailureLaws.{PointsAreStates, PointsFail, StatesMakePoints, FailsIsFalse, ToldCellsAlike}
+use Rattle.ft_compose.specs.laws.FailureLaws.{PointsAreStates, PointsFail, StatesMakePoints, FailsIsFalse, FailingIsOpen, ToldCellsAlike}
 use Rattle.ft_compose.specs.laws.Laws.{Laws}
 use Rattle.ft_compose.specs.meaning.Failing.{IsTold}
 
@@ -112,16 +113,28 @@ module _ (laws : Laws) (S : Tables) (anew : Bool) (section : Section) (x : ℕ) 
   agrees σ τ same holds = (and_parts (claim_true τ (cell_claim S (now_frame S anew) cell)) true
       (laws.true_alike (slot_spans S) (cell_claim S (now_frame S anew) cell ∷ []) cell_good σ τ same (and_from _ _ holds refl))).0
 
+  -- a cell holds alike at numbers that agree on the names of its own formula
+  pub cell_same : (σ τ : ℕ → ℤ)
+      → ((u : ℕ) → u < base → IsTrue (is_used base (cell_claim S (now_frame S anew) cell ∷ []) u) → σ u ≡ τ u)
+      → cell_holds (view S (now_frame S anew) σ) cell ≡ cell_holds (view S (now_frame S anew) τ) cell
+  cell_same σ τ same =
+      sym (laws.cells_say S (now_frame S anew) σ cell)
+      ∙ same_truth _ _ (agrees σ τ same) (agrees τ σ (λ u l used. sym (same u l used)))
+      ∙ laws.cells_say S (now_frame S anew) τ cell
+
   cell_alike : (parts : List Claim) → IsTold S anew parts cell → (p : List ℤ) (σ τ : ℕ → ℤ) → Gives (slot_spans S) parts p σ
       → Gives (slot_spans S) parts p τ
       → cell_holds (view S (now_frame S anew) σ) cell ≡ cell_holds (view S (now_frame S anew) τ) cell
-  cell_alike parts told p σ τ gives gives' =
-      sym (laws.cells_say S (now_frame S anew) σ cell)
-      ∙ same_truth _ _
-      (agrees σ τ (λ u l used. sym (gives u l (told u l used)) ∙ gives' u l (told u l used)))
-      (agrees τ σ (λ u l used. sym (gives' u l (told u l used)) ∙ gives u l (told u l used)))
-      ∙ laws.cells_say S (now_frame S anew) τ cell
+  cell_alike parts told p σ τ gives gives' = cell_same σ τ
+      (λ u l used. sym (gives u l (told u l used)) ∙ gives' u l (told u l used))
 
 pub told_alike : Laws → ToldCellsAlike
 told_alike laws S anew block fact marks section x v is k cell at told p σ τ gives gives' =
     cell_alike laws S anew section x v is k cell at (block_parts S anew block fact marks) told p σ τ gives gives'
+
+pub failing_open : Laws → FailingIsOpen
+failing_open laws S n cells values labels it closes =
+    let point = states_make_points laws S it.b it.f it.block it.fact it.anew it.its_fact it.marks it.belong it.some.0 it.some.1
+    (it.each it.some.0 it.some.2) in
+    closes (block_obliged S it.anew it.block it.fact it.marks)
+    (of_fact it.b it.f it.block it.fact it.anew it.marks it.subject it.its_fact it.belong refl) point.0 point.1

@@ -1,2 +1,3 @@
+pub mod building
 pub mod laws
 pub mod meaning

@@ -1,9 +1,14 @@
-ghost use Rattle.ft_compose.specs.laws.CompositionLaws.{BlocksCompose, ShownBlocksCompose, ClosedBlocksCompose};
-ghost use Rattle.ft_compose.specs.laws.FailureLaws.{PointsAreStates, PointsFail, StatesMakePoints, FailsIsFalse, ToldCellsAlike};
+ghost use Rattle.ft_compose.specs.laws.CompositionLaws.{BlocksCompose, ShownBlocksCompose, ClosedBlocksCompose, FaultlessCompose};
+ghost use Rattle.ft_compose.specs.laws.DecidingLaws.{DecidingLaws};
+ghost use Rattle.ft_compose.specs.laws.FailureLaws.{PointsAreStates, PointsFail, StatesMakePoints, FailsIsFalse, FailingIsOpen, ToldCellsAlike};
 ghost use Rattle.ft_compose.specs.laws.Laws.{Laws};
 
-use ft_claims::{claim_laws, formula_laws, good_laws, value_laws};
-use ft_mean::{evaluation_laws, memories_move, one_image, one_trace, table_laws, whole_laws};
+use ft_claims::{cell_laws, claim_laws, formula_laws, good_laws, point_laws, value_laws};
+use ft_core::order_gives_rank;
+use ft_cover::kept_laws;
+use ft_mean::{
+    evaluation_laws, memories_move, one_image, one_trace, safety_laws, table_laws, whole_laws,
+};
 use ft_oblige::{number_laws, part_laws};
 
 /// What the proofs of this crate need of the definitions of the crates below.
@@ -22,6 +27,22 @@ pub(crate) fn laws()
     value_laws();
     number_laws();
     part_laws();
+}
+
+/// What the proofs of the search for a failing fact need of them.
+pub(crate) fn deciding_laws()
+    ensures { DecidingLaws }
+{
+    laws();
+    order_gives_rank();
+    evaluation_laws();
+    safety_laws();
+    table_laws();
+    cell_laws();
+    formula_laws();
+    point_laws();
+    number_laws();
+    kept_laws();
 }
 
 /// Facts that hold over any two scans by themselves hold along every allowed list, and the design implements the requirement:
@@ -47,15 +68,24 @@ pub fn closed_blocks_compose()
     laws();
 }
 
+/// The same of a set whose blocks have no fault: where every table is proper and no obligation has a point, the design implements the
+/// requirement, and every invariant holds at every scan of every allowed list.
+pub fn faultless_compose()
+    ensures { FaultlessCompose }
+{
+    laws();
+}
+
 /// The points of the formula of a fact and the states at which the diagram fails. A point has the values of a state, and at every
 /// state that has them it fails; each state at which it fails makes a point. There the fact is false, and each cell that the point
-/// tells holds at all such states or at none.
+/// tells holds at all such states or at none. Where a fact is told to fail, its obligation isn't closed.
 pub fn failure_laws()
     ensures states { PointsAreStates }
     ensures fail { PointsFail }
     ensures points { StatesMakePoints }
     ensures is_false { FailsIsFalse }
     ensures cells { ToldCellsAlike }
+    ensures open { FailingIsOpen }
 {
     laws();
 }

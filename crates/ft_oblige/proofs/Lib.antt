@@ -1,7 +1,17 @@
+pub mod CloseLemmas
+pub mod DefineLemmas
+pub mod FindLemmas
+pub mod HomeLemmas
+pub mod KeptLemmas
 pub mod ListGoodLemmas
 pub mod ListSpanLemmas
+pub mod MadeLemmas
+pub mod NthLemmas
 pub mod NumberLemmas
 pub mod OneLemmas
+pub mod PairLemmas
 pub mod PartLemmas
+pub mod ReadLemmas
 pub mod SpanLemmas
 pub mod TriedLemmas
+pub mod WalkLemmas

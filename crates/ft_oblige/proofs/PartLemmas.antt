@@ -29,7 +29,7 @@ use Rattle.ft_oblige.specs.meaning.Linked.{marked}
 use Rattle.ft_oblige.specs.meaning.States.{slot_spans}
 use Rattle.ft_oblige.specs.laws.Marked.{marked_hold}
 use Rattle.ft_oblige.specs.laws.OwnSections.{own_req, own_sof, taken_kinds, the_other}
-use Rattle.ft_oblige.specs.laws.PartLaws.{Goods, PartsAreGood}
+use Rattle.ft_oblige.specs.laws.PartLaws.{Goods, PartsAreGood, OthersAreGood}
 use Rattle.ft_oblige.specs.laws.ReadsThere.{blocks_of, there, var_of, now_there, step_there, fact_there}
 use Rattle.ft_oblige.specs.laws.Tests.{at_place, every_image, both_lists, of_filter, of_flat}
 use Rattle.ft_oblige.proofs.SpanLemmas.{slots_long}
@@ -155,6 +155,12 @@ module _ (goods : Goods) (S : Tables) (base : ℕ) (room : width S + width S ≤
       (clauses_good goods S past base there_past S.always always (clauses_sized S).1))
       (clauses_good goods S now base (here false) S.step (λ k c r at it. step_there S monitored r (S.sound.step_reads k c r at it))
       (clauses_sized S).2)
+
+pub all_others_good : Goods → OthersAreGood
+all_others_good goods S anew =
+    let base = length (slot_spans S) in
+    let room : width S + width S ≤ length (slot_spans S) = let long = slots_long S in omega (arith, long) in
+    list_all-map (λ (c : Collected). c.good) (collected base) (others S anew) ∙ others_good goods S base room anew
 
 pub parts_good : Goods → PartsAreGood
 parts_good goods S b f block fact is anew marks =

@@ -1,4 +1,4 @@
-ghost use Rattle.ft_oblige.specs.laws.PartLaws.{Goods, PartsAreGood, SlotsAreNames, SlotsHaveSome, SlotsAreSpans};
+ghost use Rattle.ft_oblige.specs.laws.PartLaws.{Goods, PartsAreGood, OthersAreGood, SlotsAreNames, SlotsHaveSome, SlotsAreSpans};
 
 use ft_claims::good_laws;
 
@@ -13,6 +13,7 @@ pub(crate) fn goods()
 /// divisors. Numbers are in their spans name by name exactly where they are in the area of all names.
 pub fn part_laws()
     ensures good { PartsAreGood }
+    ensures others { OthersAreGood }
     ensures names { SlotsAreNames }
     ensures some { SlotsHaveSome }
     ensures spans { SlotsAreSpans }

@@ -1,4 +1,5 @@
-//! What no contract says, shown once: rows of a text and its answer, and each call that can answer want of memory, with memory enough.
+//! What no contract says, shown once: rows of what a call is given and its answer, and each call that can answer want of memory, with
+//! memory enough.
 #![tactic(auto)]
 
 #[cfg(test)]
@@ -15,8 +16,6 @@ mod memories;
 mod orders;
 #[cfg(test)]
 mod ports;
-#[cfg(test)]
-mod printing;
 #[cfg(test)]
 mod running;
 #[cfg(test)]

@@ -3,8 +3,8 @@ ghost use Rattle.ft_port.specs.Counts.{names_of};
 ghost use Rattle.ft_cli.specs.Top.{NamesKnown};
 
 use ft_base::{List, NoMemory, Text};
-use ft_cli::{file_words, run};
-use ft_port::{MemShelf, MemSink};
+use ft_cli::{Ended, file_words, run};
+use ft_port::{MemShelf, MemSink, Shelf, Sink};
 use std::alloc::Global;
 
 fn words_of(alloc: Global, line: &str) -> Result<Vec<String>, NoMemory> {
@@ -40,6 +40,13 @@ fn shelf_of(
     MemShelf::new(alloc, files, List::copy_of(alloc, &[failing])?)
 }
 
+// What a call ends with, whatever the shelf and the sink. What it says is for the call's own contract, and isn't asked here.
+fn ended<S: Shelf, K: Sink>(alloc: Global, words: &[String], shelf: &mut S, sink: &mut K) -> Ended
+    requires { NamesKnown (map string_bytes words.now) (S.names shelf.old) }
+{
+    run(alloc, words, shelf, sink)
+}
+
 /// The status, and what the sink took. The words stand in one line; the read with this number fails, and this write after so many bytes.
 pub fn answer(
     alloc: Global,
@@ -51,11 +58,6 @@ pub fn answer(
     let words = words_of(alloc, line)?;
     let mut shelf = shelf_of(alloc, words.as_slice(), content, failing_read)?;
     let mut sink = MemSink::open(alloc, 100_000, List::copy_of(alloc, &[failing_write])?)?;
-    let ended = run(alloc, words.as_slice(), &mut shelf, &mut sink);
+    let ended = ended(alloc, words.as_slice(), &mut shelf, &mut sink);
     Ok((ended.status, List::copy_of(alloc, sink.taken())?))
-}
-
-/// The status and the report of a command on a file with this text, where nothing fails.
-pub fn report(alloc: Global, line: &str, content: &[u8]) -> Result<(u8, Text), NoMemory> {
-    answer(alloc, line, content, 0, (0, 0))
 }

@@ -1,8 +1,10 @@
 //! Which history bytes spell, over the definitions alone.
-ghost use Rattle.std.specs.Prelude.{ℕ, List, ◌≡◌};
+ghost use Rattle.std.specs.Prelude.{ℕ, List, [], length, ◌≡◌, ◌≢◌, ◌≤◌};
 ghost use Rattle.ft_core.specs.declared.tables.Tables.{Tables};
-ghost use Rattle.ft_mean.specs.meaning.Reading.{Scans};
+ghost use Rattle.ft_core.specs.meaning.Kinds.{monitored};
+ghost use Rattle.ft_mean.specs.meaning.Reading.{IsListOf, Scans};
 ghost use Rattle.ft_trace.specs.meaning.Spelling.{IsFirstFault, SpellsHistory};
+ghost use Rattle.ft_trace.specs.meaning.Writing.{trace_text};
 ghost use Rattle.ft_trace.specs.declared.fault.TraceFault.{TraceFault};
 ghost use Rattle.ft_trace.specs.declared.fault.TraceFault.TheVariants as faults;
 
@@ -19,4 +21,9 @@ pub fn one_history()
 pub fn history_or_fault()
     ensures { (S : Tables) (bytes : List ℕ) (h : Scans) (f : TraceFault) → SpellsHistory S bytes h → IsFirstFault S bytes f → f
         ≡ faults.NoMemory }
+{}
+
+/// The text that is written of a list of 1 to 100,000 scans of monitored values spells that list.
+pub fn written_is_spelled()
+    ensures { (S : Tables) (h : Scans) → IsListOf S monitored h → h ≢ [] → length h ≤ 100000 → SpellsHistory S (trace_text S h) h }
 {}

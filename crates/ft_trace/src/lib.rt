@@ -11,6 +11,6 @@ mod source;
 mod writing;
 
 pub use fault::TraceFault;
-pub use law::{history_or_fault, one_history};
+pub use law::{history_or_fault, one_history, written_is_spelled};
 pub use reading::{End, TraceReader, read_trace};
 pub use writing::write_trace;

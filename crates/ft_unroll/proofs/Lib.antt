@@ -1,7 +1,12 @@
+pub mod FormLemmas
+pub mod FoundLemmas
 pub mod FrameLemmas
 pub mod PartLemmas
 pub mod PointLemmas
 pub mod RollLemmas
 pub mod ScanLists
+pub mod SeekLemmas
 pub mod ShortLemmas
+pub mod StepLemmas
+pub mod TellLemmas
 pub mod UnrollLemmas

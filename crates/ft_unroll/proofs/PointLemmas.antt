@@ -30,7 +30,7 @@ use Rattle.ft_unroll.proofs.ScanLists.{same_list}
 use Rattle.ft_unroll.proofs.UnrollLemmas.{nat_holds, list_whole, list_defined}
 
 -- a name of one of n scans has a span
-name_low : (laws : Laws) (S : Tables) (n t x : ℕ) → t < n → x < length S.vars → t * width S + x < length (list_spans S n)
+pub name_low : (laws : Laws) (S : Tables) (n t x : ℕ) → t < n → x < length S.vars → t * width S + x < length (list_spans S n)
 name_low laws S n t x l low =
     let long = laws.lists_are_names S n in
     let end = mul-le (suc t) (width S) n (width S) (omega (arith, l)) (omega arith) in

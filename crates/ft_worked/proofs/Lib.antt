@@ -11,9 +11,5 @@ pub mod ReadingRules
 pub mod RelayLemmas
 pub mod RelaySound
 pub mod SoundTests
-pub mod SpelledLemmas
-pub mod StreamLemmas
 pub mod TripLemmas
-pub mod TripProper
-pub mod TripSound
 pub mod WatchedSound

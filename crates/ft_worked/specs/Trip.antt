@@ -17,7 +17,7 @@
 --   pressure             2000  2000  2000  2000  2000
 --   required             0     0     0     0     1
 --   with 4               0     0     0     1     1
-use Rattle.std.specs.Prelude.{ℕ, pos, Bool, false, List, [], ◌∷◌, if◌then◌else◌}
+use Rattle.std.specs.Prelude.{ℕ, pos, false, List, [], ◌∷◌}
 use Rattle.ft_core.specs.declared.tables.Table.{Table}
 use Rattle.ft_core.specs.declared.tables.Var.{Var}
 use Rattle.ft_core.specs.declared.tables.VarKind.TheVariants.{Mon, Con, Input, Output, SofInner}
@@ -90,10 +90,6 @@ valve_by_coil = record {
 
 abbrev pub tables : (full : ℕ) → List Table
 tables full = adc ∷ valve ∷ above ∷ count full ∷ coil full ∷ valve_by_coil ∷ []
-
--- the count at which the coil is on, where it is early and where it isn't
-abbrev pub full_of : (early : Bool) → ℕ
-full_of early = if early then 4 else 5
 
 abbrev pub trip : (full : ℕ) → Parts
 trip full = record {

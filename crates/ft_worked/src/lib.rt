@@ -11,15 +11,9 @@ mod relay;
 #[cfg(test)]
 mod replays;
 #[cfg(test)]
-mod streams;
-#[cfg(test)]
 mod tests;
 #[cfg(test)]
-mod timed;
-#[cfg(test)]
 mod traces;
-#[cfg(test)]
-mod trip;
 #[cfg(test)]
 mod watched;
 

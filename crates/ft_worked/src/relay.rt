@@ -74,12 +74,7 @@ pub(crate) fn always_gives(
 }
 
 /// A table that gives 1 where a memory is true, and else 0.
-pub(crate) fn tells(
-    alloc: Global,
-    section: Section,
-    target: u32,
-    memory: u32,
-) -> Result<Table, NoMemory>
+fn tells(alloc: Global, section: Section, target: u32, memory: u32) -> Result<Table, NoMemory>
     ensures { IfOk result (λ t. t ≡ tells section target memory) }
 {
     let columns = only(alloc, Cond::Yes)?;

@@ -9,6 +9,8 @@ use Rattle.ft_claims.specs.meaning.Claims.{claim_true}
 use Rattle.ft_claims.specs.meaning.Spans.{InSpans}
 use Rattle.ft_oblige.specs.meaning.Blocks.{IsFactAt, own, others}
 use Rattle.ft_oblige.specs.meaning.Obligations.{obligation_count, Closes}
+use Rattle.ft_blocks.specs.meaning.Faults.{HasNoBlockFault}
+use Rattle.ft_compose.specs.meaning.Decided.{AllClose}
 use Rattle.ft_compose.specs.meaning.Composing.{IsBlockRank, HasGoals, Marking, NoPoints, Composed}
 
 -- no numbers in their spans make a fact false, what its block takes and uses true, and all else true that is known of the two scans
@@ -29,3 +31,7 @@ ShownBlocksCompose = (S : Tables) → AllProper S → HasGoals S → (rank : ℕ
 abbrev pub ClosedBlocksCompose : Type 0
 ClosedBlocksCompose = (S : Tables) → AllProper S → HasGoals S → (rank : ℕ → ℕ) → IsBlockRank S rank
     → ((n : ℕ) → 3 * length S.tables < n → n ≤ obligation_count S → Closes S n) → Composed S
+
+-- where every table is proper, the blocks have no fault, and no obligation has a point
+abbrev pub FaultlessCompose : Type 0
+FaultlessCompose = (S : Tables) → AllProper S → HasNoBlockFault S.vars S.blocks → AllClose S → Composed S

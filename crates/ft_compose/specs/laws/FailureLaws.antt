@@ -14,8 +14,11 @@ use Rattle.ft_claims.specs.meaning.Names.{view}
 use Rattle.ft_claims.specs.meaning.Points.{IsPointOf}
 use Rattle.ft_claims.specs.meaning.Spans.{InSpans}
 use Rattle.ft_oblige.specs.meaning.Blocks.{IsFactAt, now_frame, block_parts}
-use Rattle.ft_oblige.specs.meaning.Obligations.{AreOf, block_obliged}
+use Rattle.ft_oblige.specs.meaning.Obligations.{AreOf, Closes, block_obliged}
 use Rattle.ft_oblige.specs.meaning.States.{slot_spans, fact_true}
+use Rattle.ft_core.specs.declared.label.Label.{Label}
+use Rattle.ft_compose.specs.declared.blocks.Cells.{Cells}
+use Rattle.ft_compose.specs.meaning.Decided.{IsFailing}
 use Rattle.ft_compose.specs.meaning.Failing.{FailsAt, IsTold}
 
 -- these numbers are a state with the values of a point of the formula of a fact
@@ -51,3 +54,8 @@ ToldCellsAlike = (S : Tables) (anew : Bool) (block : Block) (fact : Fact) (marks
     → (k : ℕ) (cell : Cell) → slice_get (cells_of S section x) k ≡ Some cell → IsTold S anew (block_parts S anew block fact marks) cell
     → (p : List ℤ) (σ τ : ℕ → ℤ) → HasState S anew block fact marks p σ → HasState S anew block fact marks p τ
     → cell_holds (view S (now_frame S anew) σ) cell ≡ cell_holds (view S (now_frame S anew) τ) cell
+
+-- an obligation of a fact that fails isn't closed
+abbrev pub FailingIsOpen : Type 0
+FailingIsOpen = (S : Tables) (n : ℕ) (cells : Cells) (values : List ℤ) (labels : List Label) → IsFailing S n cells values labels
+    → Closes S n → ⊥

@@ -8,7 +8,7 @@ use Rattle.ft_claims.specs.laws.FormulaLaws.{AreGood}
 use Rattle.ft_claims.specs.laws.GoodLaws.{ConditionsGood, DefinitionsGood, MovesGood, NegationsGood, ConjunctionsGood}
 use Rattle.ft_claims.specs.meaning.Names.{width}
 use Rattle.ft_claims.specs.meaning.Spans.{InSpans}
-use Rattle.ft_oblige.specs.meaning.Blocks.{IsFactAt, block_parts}
+use Rattle.ft_oblige.specs.meaning.Blocks.{IsFactAt, block_parts, others}
 use Rattle.ft_oblige.specs.meaning.States.{slot_spans}
 
 -- what the crates below say of the claims that the parts are made of
@@ -23,6 +23,10 @@ pub record Goods : Type 0 where
 abbrev pub PartsAreGood : Type 0
 PartsAreGood = (S : Tables) (b f : ℕ) (block : Block) (fact : Fact) → IsFactAt S b f block fact → (anew : Bool) (marks : List Bool)
     → AreGood (slot_spans S) (block_parts S anew block fact marks)
+
+-- so are all other parts that there may be
+abbrev pub OthersAreGood : Type 0
+OthersAreGood = (S : Tables) (anew : Bool) → AreGood (slot_spans S) (others S anew)
 
 -- each name of two scans has a span
 abbrev pub SlotsAreNames : Type 0

@@ -8,7 +8,7 @@ use Rattle.ft_mean.specs.laws.TimeLaws.{BeginsFirst, BeginsOnce}
 use Rattle.ft_mean.specs.laws.TraceLaws.{AllowedShorter, DiffersShorter}
 use Rattle.ft_mean.specs.laws.Whole.{RunsAreWhole, WholesSplit, SplitsDiffer}
 use Rattle.ft_claims.specs.laws.ClaimLaws.{ConditionsSay, DefinitionsSay, MovesSay}
-use Rattle.ft_claims.specs.laws.FormulaLaws.{PointsTell, NumbersMakePoints}
+use Rattle.ft_claims.specs.laws.FormulaLaws.{PointsTell, NumbersMakePoints, SettledAlike}
 use Rattle.ft_claims.specs.laws.ValueLaws.{PointsAreOfNumbers}
 use Rattle.ft_oblige.specs.laws.ListPartLaws.{ListsAreGood, DifferencesAreGood, ListsAreNames, ListsHaveSome, ListsAreSpans}
 
@@ -35,6 +35,7 @@ pub record Laws : Type 0 where
   pub moves_say : MovesSay
   pub points_tell : PointsTell
   pub numbers_make_points : NumbersMakePoints
+  pub settled_alike : SettledAlike
   pub points_are_of_numbers : PointsAreOfNumbers
   pub lists_good : ListsAreGood
   pub differences_good : DifferencesAreGood

@@ -1,9 +1,15 @@
-use Rattle.std.proofs.Common.{[], ◌∷◌, rules, subst, sym, w64, FitsSigned}
-use Rattle.std.proofs.lemmas.Int.{to_z-of_z}
-use Rattle.ft_mean.specs.meaning.Refines.{FirstDiffers}
+use Rattle.std.proofs.Common.{refl, subst}
+use Rattle.ft_unroll.specs.meaning.Found.{IsRefute}
 use Rattle.ft_cli.proofs.judging.without_difference.Goals as goal
 
-pub refuted-requires-clause-differs : goal.refuted-requires-clause-differs
-refuted-requires-clause-differs c = λ S is proper.
-    let fits : FitsSigned w64 c.in-Some.value = search rules in
-    subst (λ z. FirstDiffers S ((z ∷ []) ∷ []) 0) (sym (to_z-of_z w64 c.in-Some.value fits)) (c.in-Some.ensures.some S is proper)
+pub returns-in-List-clause-stopped : goal.returns-in-List-clause-stopped
+returns-in-List-clause-stopped c = λ bytes spelled. record {
+  tried = record { spelled = spelled; proper = c.requires.proper; lists = c.requires.lists };
+  shortest = subst (IsRefute c.args.tables) c.in-List.is c.in_ok-found.ensures;
+}
+
+pub returns-in-Safe-clause-searched : goal.returns-in-Safe-clause-searched
+returns-in-Safe-clause-searched c = (refl, (refl, subst (IsRefute c.args.tables) c.in-Safe.is c.in_ok-found.ensures))
+
+pub returns-in-SpentAt-clause-searched : goal.returns-in-SpentAt-clause-searched
+returns-in-SpentAt-clause-searched c = (refl, subst (IsRefute c.args.tables) c.in-SpentAt.is c.in_ok-found.ensures)

@@ -1,16 +1,20 @@
 use Rattle.std.proofs.Common.{refl}
 use Rattle.ft_cli.specs.stages.Command.{asked_by}
+use Rattle.ft_cli.proofs.FittingLemmas.{outcome-fits}
 use Rattle.ft_cli.proofs.TopLemmas.{known-by, others-by, outcome-by, usage-by}
 use Rattle.ft_cli.proofs.top.report_on.Goals as goal
 
-pub report_on_file-requires : goal.report_on_file-requires
-report_on_file-requires g c = known-by asked_by _ _ _ c.command_of.ensures c.in-Some.is _ c.requires
+pub report_by-requires : goal.report_by-requires
+report_by-requires g c = known-by asked_by _ _ _ c.command_of.ensures c.in-Some.is _ c.requires
+
+pub returns-in-Some-clause-fitting : goal.returns-in-Some-clause-fitting
+returns-in-Some-clause-fitting g c = outcome-fits _ _ _ c.report_by.ensures.outcome
 
 pub returns-in-Some-clause-outcome : goal.returns-in-Some-clause-outcome
-returns-in-Some-clause-outcome g c = outcome-by asked_by _ _ _ c.command_of.ensures c.in-Some.is _ _ c.report_on_file.ensures.outcome
+returns-in-Some-clause-outcome g c = outcome-by asked_by _ _ _ c.command_of.ensures c.in-Some.is _ _ c.report_by.ensures.outcome
 
 pub returns-in-Some-clause-others : goal.returns-in-Some-clause-others
-returns-in-Some-clause-others g c = others-by asked_by _ _ _ c.command_of.ensures c.in-Some.is _ _ _ _ _ _ c.report_on_file.ensures.others
+returns-in-Some-clause-others g c = others-by asked_by _ _ _ c.command_of.ensures c.in-Some.is _ _ _ _ _ _ c.report_by.ensures.others
 
 pub returns-in-None-clause-outcome : goal.returns-in-None-clause-outcome
 returns-in-None-clause-outcome g c = usage-by asked_by _ _ _ _ c.command_of.ensures c.in-None.is refl

@@ -1,4 +1,6 @@
-use Rattle.ft_cli.proofs.TopLemmas.{answered, complete, headline, prints, refutation}
+use Rattle.ft_cli.proofs.CompleteLemmas.{complete, decides, refutes, verifies}
+use Rattle.ft_cli.proofs.TopLemmas.{answered, headline, of-each, prints, refutation}
+use Rattle.ft_cli.proofs.ReplayedLemmas.{agreement, replays-all, replays-refuted}
 use Rattle.ft_cli.proofs.top.run.Goals as goal
 
 pub returns-clause-headline : goal.returns-clause-headline
@@ -10,10 +12,59 @@ returns-clause-refutation g c =
     refutation _ _ c.answer.result c.answer.ensures.status _ _ (answered _ _ _ _ c.report_on-report.ensures.outcome c.answer.ensures.report)
 
 pub returns-clause-complete : goal.returns-clause-complete
-returns-clause-complete g c = complete c.one_set.ensures _ _ _ (answered _ _ _ _ c.report_on-report.ensures.outcome c.answer.ensures.report)
+returns-clause-complete g c =
+    of-each _ (complete c.laws.ensures) _ _ _ (answered _ _ _ _ c.report_on-report.ensures.outcome c.answer.ensures.report)
+
+pub returns-clause-verifies : goal.returns-clause-verifies
+returns-clause-verifies g c =
+    of-each _ (verifies c.laws.ensures) _ _ _ (answered _ _ _ _ c.report_on-report.ensures.outcome c.answer.ensures.report)
+
+pub returns-clause-refutes : goal.returns-clause-refutes
+returns-clause-refutes g c =
+    of-each _ (refutes c.laws.ensures) _ _ _ (answered _ _ _ _ c.report_on-report.ensures.outcome c.answer.ensures.report)
+
+pub returns-clause-decides : goal.returns-clause-decides
+returns-clause-decides g c =
+    of-each _ (decides c.laws.ensures) _ _ _ (answered _ _ _ _ c.report_on-report.ensures.outcome c.answer.ensures.report)
 
 pub returns-clause-prints : goal.returns-clause-prints
 returns-clause-prints g c = prints _ _ _ (answered _ _ _ _ c.report_on-report.ensures.outcome c.answer.ensures.report)
 
+pub returns-clause-replays : goal.returns-clause-replays
+returns-clause-replays g c =
+    agreement _ _ c.answer.result c.answer.ensures.status _ _ (answered _ _ _ _ c.report_on-report.ensures.outcome c.answer.ensures.report)
+
+pub returns-clause-replays_all : goal.returns-clause-replays_all
+returns-clause-replays_all g c =
+    replays-all c.laws.ensures _ _ _ (answered _ _ _ _ c.report_on-report.ensures.outcome c.answer.ensures.report)
+
+pub returns-clause-replays_refuted : goal.returns-clause-replays_refuted
+returns-clause-replays_refuted g c =
+    replays-refuted c.laws.ensures _ _ _ (answered _ _ _ _ c.report_on-report.ensures.outcome c.answer.ensures.report)
+
 pub returns-clause-outcome : goal.returns-clause-outcome
 returns-clause-outcome g c = answered _ _ _ _ c.report_on-report.ensures.outcome c.answer.ensures.report
+
+pub returns-clause-others : goal.returns-clause-others
+returns-clause-others g c = c.report_on-report.ensures.others
+
+pub returns-clause-status : goal.returns-clause-status
+returns-clause-status g c = c.answer.ensures.status
+
+pub returns-clause-written : goal.returns-clause-written
+returns-clause-written g c = c.answer.ensures.written
+
+pub returns-clause-once : goal.returns-clause-once
+returns-clause-once g c = c.answer.ensures.once
+
+pub returns-clause-content : goal.returns-clause-content
+returns-clause-content g c = c.report_on-report.ensures.content
+
+pub returns-clause-names : goal.returns-clause-names
+returns-clause-names g c = c.report_on-report.ensures.names
+
+pub report_on-report-requires : goal.report_on-report-requires
+report_on-report-requires g c = c.requires
+
+pub answer-requires : goal.answer-requires
+answer-requires g c = c.report_on-report.ensures.fitting

@@ -1,6 +1,6 @@
 use Rattle.std.proofs.Common.{◌∙◌, sym, ap, refl, Some, ◌++◌, length, take}
 use Rattle.std.proofs.Math.Seq.{take-length}
-use Rattle.ft_cli.specs.meaning.Report.{text_of}
+use Rattle.ft_report.specs.meaning.Report.{text_of}
 use Rattle.ft_cli.proofs.top.write_report.Goals as goal
 
 pub returns-in-Ok-clause-written : goal.returns-in-Ok-clause-written

@@ -24,6 +24,7 @@ returns c = record {
   moves_say = c.claim_laws.ensures.moves;
   points_tell = c.formula_laws.ensures.points;
   numbers_make_points = c.formula_laws.ensures.numbers;
+  settled_alike = c.formula_laws.ensures.settled;
   points_are_of_numbers = c.value_laws.ensures.points;
   lists_good = c.list_part_laws.ensures.lists;
   differences_good = c.list_part_laws.ensures.differences;

@@ -1,0 +1,9 @@
+use Rattle.std.proofs.Common.{◌≡◌, ◌++◌, take, []}
+use Rattle.std.specs.List.{flat_map, zip}
+use Rattle.ft_core.specs.meaning.Grids.{numbered}
+use Rattle.ft_cover.specs.building.Places.{inverted_row}
+use Rattle.ft_cover.proofs.placing.inverted_places.Given as goal
+
+abbrev pub invariant-loop-row : goal.invariant-loop-row
+invariant-loop-row g l = l.places ≡ [] ++ flat_map (inverted_row l.vars (g.L.Look.view l.look) l.wanted l.target l.terms)
+    (take l.row (numbered (zip l.rows l.grid)))

@@ -1,0 +1,4 @@
+-- What the search for the cells of a fault computes with.
+pub mod KeptView
+pub mod Places
+pub mod Numbering

@@ -1,0 +1,4 @@
+-- What the proofs need of the crates below, and laws of what is kept and found, for the crates above.
+pub mod KeptLaws
+pub mod Laws
+pub mod Sought

@@ -1,0 +1,2 @@
+-- What the steps that write a report compute with.
+pub mod Thirds

@@ -1,4 +1,0 @@
--- What only the contracts of private functions and proofs cite.
-pub mod Form
-pub mod Rows
-pub mod Verdict

@@ -1,0 +1,3 @@
+pub mod laws
+pub mod meaning
+pub mod steps

@@ -1,0 +1,2 @@
+-- Laws of traces and marks, and what the proofs need of the crates below.
+pub mod Laws

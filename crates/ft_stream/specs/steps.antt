@@ -1,0 +1,2 @@
+-- How a trace is replayed scan by scan.
+pub mod Streams

@@ -1,0 +1,11 @@
+use Rattle.ft_oblige.specs.meaning.Lists.{sides_at}
+use Rattle.ft_unroll.proofs.StepLemmas.{scan-more, scan-end}
+use Rattle.ft_unroll.proofs.sides.add_sides.Goals as goal
+
+pub loop-scan-preserved : goal.loop-scan-preserved
+loop-scan-preserved c = scan-more (sides_at c.args.tables.now) c.loop-scan.scan c.args.parts.now c.loop-scan.parts _
+    c.loop-scan.invariant c.in_ok-add_sides_at.ensures
+
+pub returns : goal.returns
+returns c = scan-end (sides_at c.args.tables.now) c.loop-scan.scan c.args.scans c.args.parts.now c.loop-scan.parts c.loop-scan-test.false
+    c.loop-scan.auto.scan-end c.loop-scan.invariant

@@ -1,0 +1,3 @@
+-- What the steps compute with that make the formulas of lists and read their points.
+pub mod Defining
+pub mod Telling
