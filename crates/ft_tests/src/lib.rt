@@ -5,8 +5,6 @@
 #[cfg(test)]
 mod certificates;
 #[cfg(test)]
-mod commands;
-#[cfg(test)]
 mod containers;
 #[cfg(test)]
 mod formulas;
@@ -16,8 +14,6 @@ mod memories;
 mod orders;
 #[cfg(test)]
 mod ports;
-#[cfg(test)]
-mod running;
 #[cfg(test)]
 mod solutions;
 #[cfg(test)]
