@@ -45,7 +45,7 @@ abbrev pub option_fault : (lo hi : ℤ) → Option Number → Option ItemFault
 option_fault lo hi None = None
 option_fault lo hi (Some number) = number_fault lo hi number
 
--- a period is 1 to 10,000 ms, there are at most 1,000 splits, and 1 to 8 scans of depth
+-- a period is 1 to 10,000 ms, there are at most 200,000 splits, and 1 to 8 scans of depth
 abbrev pub set_range : Number → (splits depth : Option Number) → Option ItemFault
 set_range period splits depth =
     option_or (number_fault (pos 1) (pos 10000) period)
