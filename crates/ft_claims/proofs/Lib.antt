@@ -29,6 +29,7 @@ pub mod NumberLemmas
 pub mod ObligedLemmas
 pub mod OverLemmas
 pub mod OverlapLemmas
+pub mod PairLemmas
 pub mod PartAlikeLemmas
 pub mod PartGood
 pub mod ReadLemmas

@@ -13,26 +13,6 @@ use Rattle.ft_claims.specs.meaning.Forms.{constant_form, unknown, plus, minus, t
 use Rattle.ft_claims.specs.meaning.Forms.{quotient, with_entry, Gathered, gathered, Gathers}
 use Rattle.ft_claims.proofs.GatherLemmas.{Extends, entry-itself, extends-entry, form_longer, rolled, stable}
 
--- where an element that passes the test stands, or none does
-pub none-before : {A : Type 0} (p : A → Bool) (xs : List A) → length xs ≤ position_or_len p xs → list_any p xs ≡ false
-none-before p [] h = refl
-none-before p (x ∷ xs) h = ⊎_elim
-    (λ e. let none : position_or_len p (x ∷ xs) ≡ 0 = ap (λ b. cond (not b) (1 + position_or_len p xs) 0) e in
-    absurd (omega (arith, h, none)))
-    (λ e.
-    let next : position_or_len p (x ∷ xs) ≡ 1 + position_or_len p xs = ap (λ b. cond (not b) (1 + position_or_len p xs) 0) e in
-    ap (λ b. b || list_any p xs) e ∙ none-before p xs (omega (arith, h, next)))
-    (cases_Bool (p x))
-
-pub some-within : {A : Type 0} (p : A → Bool) (xs : List A) → position_or_len p xs < length xs → list_any p xs ≡ true
-some-within p [] h = absurd (omega (arith, h))
-some-within p (x ∷ xs) h = ⊎_elim
-    (λ e. ap (λ b. b || list_any p xs) e)
-    (λ e.
-    let next : position_or_len p (x ∷ xs) ≡ 1 + position_or_len p xs = ap (λ b. cond (not b) (1 + position_or_len p xs) 0) e in
-    ap (λ b. b || list_any p xs) e ∙ some-within p xs (omega (arith, h, next)))
-    (cases_Bool (p x))
-
 module _ (base : ℕ) where
   gathers : (e : Sym) (g : Gathered) → gathered base e ≡ g → (T U : Entries) (f : LinView) → U ≡ g.entries T → f ≡ g.form U
       → Gathers base e T U f
@@ -85,23 +65,6 @@ module _ (base : ℕ) where
   -- the same of what equals it
   pub alike : {e d : Sym} {T U : Entries} {f g : LinView} → e ≡ d → f ≡ g → Gathers base d T U g → Gathers base e T U f
   alike {d = d} {T = T} {U = U} {f = f} p q m = subst (λ e. Gathers base e T U f) (sym p) (subst (λ h. Gathers base d T U h) (sym q) m)
-
-place-after : {A : Type 0} (p : A → Bool) (xs : List A) (x : A) → p x ≡ true → length xs ≤ position_or_len p xs → position_or_len p xs
-    ≡ position_or_len p (xs ++ x ∷ [])
-place-after p [] x h l = sym (ap (λ b. cond (not b) (1 + position_or_len p []) 0) h)
-place-after p (y ∷ xs) x h l = ⊎_elim
-    (λ e. let none : position_or_len p (y ∷ xs) ≡ 0 = ap (λ b. cond (not b) (1 + position_or_len p xs) 0) e in
-    absurd (omega (arith, l, none)))
-    (λ e.
-    let next : position_or_len p (y ∷ xs) ≡ 1 + position_or_len p xs = ap (λ b. cond (not b) (1 + position_or_len p xs) 0) e in
-    next ∙ ap (λ k. 1 + k) (place-after p xs x h (omega (arith, l, next)))
-    ∙ sym (ap (λ b. cond (not b) (1 + position_or_len p (xs ++ x ∷ [])) 0) e))
-    (cases_Bool (p y))
-
--- a pair that is added has the place of the first that is past the end
-pub place-new : (T : Entries) (e : Entry) → length T ≤ position_or_len (same_entry e) T → position_or_len (same_entry e) T
-    ≡ position_or_len (same_entry e) (T ++ e ∷ [])
-place-new T e l = place-after (same_entry e) T e (entry-itself e) l
 
 filled : (fs : List Factor) → (fs ≡ [] → ⊥) → is_constant fs ≡ false
 filled [] h = absurd (h refl)

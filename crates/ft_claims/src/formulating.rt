@@ -5,7 +5,8 @@ ghost use Rattle.ft_claims.specs.meaning.Forms.{minus};
 ghost use Rattle.ft_claims.specs.meaning.Formulas.{Collects, CollectsAll, less};
 
 use crate::claim::Claim;
-use crate::gathering::{Pairs, form_of};
+use crate::gathering::form_of;
+use crate::pairs::Pairs;
 use crate::sums::{Sum, constant, minus, plus};
 use ft_base::{Boxed, List, NoMemory};
 use ft_linear::Lin;

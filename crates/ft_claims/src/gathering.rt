@@ -1,49 +1,12 @@
 //! Terms as linear forms. Each different pair of a form and a divisor has an unknown of its own.
-ghost use Rattle.std.specs.Prelude.{◌≡◌, ◌++◌, ◌+◌, [], ◌∷◌, pos, ◌<ℤ◌, length, IfOk, OnOk, if◌then◌else◌};
-ghost use Rattle.std.specs.List.{position_or_len};
-ghost use Rattle.std.specs.Cmp.Lexicographic.{pointwise};
-ghost use Rattle.ft_claims.specs.meaning.Forms.{Gathers, is_in, quotient, same_entry, same_factor, unknown, with_entry};
+ghost use Rattle.std.specs.Prelude.{◌≡◌, ◌+◌, pos, ◌<ℤ◌, IfOk, OnOk};
+ghost use Rattle.ft_claims.specs.meaning.Forms.{Gathers, quotient, unknown, with_entry};
 
 use crate::claim::Sym;
+use crate::pairs::Pairs;
 use crate::sums::{Sum, constant, minus, plus, times, unknown};
-use ft_base::{List, NoMemory, div_floor};
+use ft_base::{NoMemory, div_floor};
 use std::alloc::Global;
-
-/// The pairs of a form and a divisor that have an unknown, in the order of their unknowns.
-pub type Pairs = List<(Sum, i64)>;
-
-fn is_same(form: &Sum, divisor: i64, pair: &(Sum, i64)) -> bool
-    ensures { result ≡ same_entry (form.now, divisor) pair.now }
-{
-    divisor == pair.1
-        && form.constant == pair.0.constant
-        && form.factors.as_slice() == pair.0.factors.as_slice()
-}
-
-// The place of a pair, or how many there are.
-fn place_of(pairs: &[(Sum, i64)], form: &Sum, divisor: i64) -> usize
-    ensures { result ≡ position_or_len (same_entry (form.now, divisor)) pairs.now }
-{
-    for (at, pair) in pairs.iter().enumerate() {
-        if is_same(form, divisor, pair) {
-            return at;
-        }
-    }
-    pairs.len()
-}
-
-// The place of a pair, which is added where it isn't there.
-fn place_in(pairs: &mut Pairs, form: Sum, divisor: i64) -> Result<usize, NoMemory>
-    ensures pairs { OnOk result (pairs.new ≡ if is_in pairs.old (form, divisor) then pairs.old else pairs.old ++ (form, divisor) ∷ []) }
-    ensures place { IfOk result (λ place. place ≡ position_or_len (same_entry (form, divisor)) pairs.new) }
-{
-    let place = place_of(pairs.as_slice(), &form, divisor);
-    if place < pairs.len() {
-        return Ok(place);
-    }
-    pairs.push((form, divisor))?;
-    Ok(place)
-}
 
 // The unknown at a place behind the names.
 fn unknown_at(alloc: Global, base: u32, place: usize) -> Result<Sum, NoMemory>
@@ -72,7 +35,7 @@ fn quotient(
     if form.factors.is_empty() {
         return Ok(constant(alloc, div_floor(form.constant, divisor)));
     }
-    let place = place_in(pairs, form, divisor)?;
+    let place = pairs.place_in(form, divisor)?;
     unknown_at(alloc, base, place)
 }
 

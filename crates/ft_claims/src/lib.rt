@@ -14,6 +14,7 @@ mod law;
 mod marking;
 mod numbering;
 mod obliging;
+mod pairs;
 mod placing;
 mod settling;
 mod spanning;

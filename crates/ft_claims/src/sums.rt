@@ -1,9 +1,13 @@
 //! Sums of factors of unknowns.
 ghost use Rattle.std.specs.Prelude.{◌≡◌, ◌++◌, [], ◌∷◌, ◌+ℤ◌, ◌*ℤ◌, map, IfOk, OnOk};
+ghost use Rattle.std.specs.Cmp.{partial_equiv_from_equiv};
+ghost use Rattle.ft_settle.specs.laws.Hashes.{form_alike, form_equiv, form_writes};
+ghost use Rattle.ft_settle.specs.meaning.Settled.{same_form};
 ghost use Rattle.ft_claims.specs.meaning.Forms.{Rises, constant_form, minus, plus, times, times_factors, unknown, with_factors, with_front};
 
 use ft_base::{List, NoMemory};
 use std::alloc::Global;
+use std::hash::{Hash, Hasher};
 use std::marker::Model;
 
 /// A sum of whole factors of unknowns, and a constant. The unknowns rise strictly, and no factor is 0.
@@ -22,6 +26,31 @@ impl Model for Sum {
     ghost view = { λ sum. record { factors = sum.factors; constant = sum.constant } };
 
     ghost invariant = { λ sum. Rises 0 sum.factors };
+}
+
+impl PartialEq for Sum {
+    ghost eq = { same_form };
+
+    ghost laws = { partial_equiv_from_equiv form_equiv };
+
+    fn eq(&self, other: &Sum) -> bool {
+        self.constant == other.constant && self.factors.as_slice() == other.factors.as_slice()
+    }
+}
+
+impl Eq for Sum {
+    ghost laws = { form_equiv };
+}
+
+impl Hash for Sum {
+    ghost hash_input = { form_writes };
+
+    ghost respects_eq = { form_alike.fed };
+
+    fn hash<H: Hasher>(&self, state: &mut H) {
+        state.write_i64(self.constant);
+        self.factors.as_slice().hash(state);
+    }
 }
 
 // The sum of two numbers. One that doesn't fit is refused as want of memory.

@@ -4,7 +4,7 @@ ghost use Rattle.ft_claims.specs.meaning.Formulas.{at_least, at_most, conjuncts,
 
 use crate::claim::Claim;
 use crate::formulating::{at_most, at_most_zero, formulas_of};
-use crate::gathering::Pairs;
+use crate::pairs::Pairs;
 use crate::sums::{Sum, constant, minus, plus, times, unknown};
 use ft_base::{List, NoMemory};
 use ft_settle::Raw;
@@ -75,7 +75,7 @@ pub fn whole_of(alloc: Global, base: u32, parts: &[Claim]) -> Result<Whole, NoMe
     ensures formula { IfOk result (λ whole. whole.formula ≡ formula_of base parts.now) }
     ensures pairs { IfOk result (λ whole. whole.pairs ≡ entries_of base parts.now) }
 {
-    let mut pairs = List::new(alloc);
+    let mut pairs = Pairs::new(alloc);
     let mut list = formulas_of(alloc, base, parts, &mut pairs)?;
     conjuncts_of(alloc, base, pairs.as_slice(), &mut list)?;
     Ok(Whole {

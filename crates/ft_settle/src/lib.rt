@@ -1,6 +1,7 @@
 //! From a formula as it is built to a settled one, whose atoms are canonical and each there once.
 #![tactic(auto)]
 
+mod atoms;
 mod canonical;
 mod law;
 mod raw;

@@ -2,45 +2,24 @@
 
 ghost use Rattle.std.specs.Prelude.{◌≡◌, ◌≤◌, ◌<◌, IfOk, OnOk, ℕ, ℤ, pos, int_le, [], true, length, map, nat_le, unsigned_abs, All};
 ghost use Rattle.std.specs.Prelude.{if◌then◌else◌};
-ghost use Rattle.std.specs.List.{IsDistinct, list_all, list_any, flat_map, position_or_len};
+ghost use Rattle.std.specs.List.{IsDistinct, list_all, flat_map};
 ghost use Rattle.ft_linear.specs.meaning.Form.{values_at};
 ghost use Rattle.ft_linear.specs.meaning.Formula.{truth_at};
 ghost use Rattle.ft_settle.specs.meaning.Raw.{is_moderate, moderate_most, raw_truth};
 ghost use Rattle.ft_settle.specs.meaning.Canonical.{IsCanonical, canonical};
-ghost use Rattle.ft_settle.specs.meaning.Settled.{AreFirstOccurrences, atoms_in, forms_of, place_of, placed, placed_form, same_form};
-ghost use Rattle.ft_settle.specs.meaning.Settled.{settled, with_form, with_forms};
+ghost use Rattle.ft_settle.specs.meaning.Settled.{AreFirstOccurrences, atoms_in, forms_of, placed, placed_form, same_form};
+ghost use Rattle.ft_settle.specs.meaning.Settled.{settled, with_forms};
 ghost use Rattle.ft_settle.specs.meaning.Raw.{all_begin_well, begins_well};
 
-use crate::canonical::{canonical, is_positive, same_form};
+use crate::atoms::Atoms;
+use crate::canonical::{canonical, is_positive};
 use crate::raw::Raw;
 use ft_base::{Boxed, List, NoMemory};
 use ft_linear::{Formula, Lin, Node, form_laws};
 use std::alloc::Global;
 
-/// Whether a form stands among these.
-fn is_there(forms: &[Lin], form: &Lin) -> bool
-    ensures { result ≡ list_any (same_form form.now) forms.now }
-{
-    for other in forms {
-        if same_form(form, other) {
-            return true;
-        }
-    }
-    false
-}
-
-/// Adds a form that isn't there.
-fn add_form(forms: &mut List<Lin>, form: Lin) -> Result<(), NoMemory>
-    ensures { OnOk result (forms.new ≡ with_form forms.old form) }
-{
-    if is_there(forms.as_slice(), &form) {
-        return Ok(());
-    }
-    forms.push(form)
-}
-
 /// Adds the canonical atom of a form. One without unknowns has none.
-fn add_atom(alloc: Global, form: &Lin, forms: &mut List<Lin>) -> Result<(), NoMemory>
+fn add_atom(alloc: Global, form: &Lin, forms: &mut Atoms) -> Result<(), NoMemory>
     requires { nat_le (unsigned_abs form.now.constant) moderate_most ≡ true }
     ensures forms { OnOk result (forms.new ≡ with_forms forms.old (atoms_in form.now form.now.factors)) }
     ensures begins { OnOk result (begins_well form.now.factors ≡ true) }
@@ -48,12 +27,12 @@ fn add_atom(alloc: Global, form: &Lin, forms: &mut List<Lin>) -> Result<(), NoMe
     if form.factors().is_empty() {
         return Ok(());
     }
-    add_form(forms, canonical(alloc, form)?)
+    forms.insert(canonical(alloc, form)?)
 }
 
 /// Adds the canonical atoms of some formulas.
 #[cycle(collect)]
-fn collect_all(alloc: Global, parts: &[Raw], forms: &mut List<Lin>) -> Result<(), NoMemory>
+fn collect_all(alloc: Global, parts: &[Raw], forms: &mut Atoms) -> Result<(), NoMemory>
     requires { list_all is_moderate parts.now ≡ true }
     ensures forms { OnOk result (forms.new ≡ with_forms forms.old (flat_map forms_of parts.now)) }
     ensures begins { OnOk result (list_all all_begin_well parts.now ≡ true) }
@@ -66,7 +45,7 @@ fn collect_all(alloc: Global, parts: &[Raw], forms: &mut List<Lin>) -> Result<()
 
 /// Adds the canonical atoms of a formula.
 #[cycle(collect)]
-fn collect(alloc: Global, raw: &Raw, forms: &mut List<Lin>) -> Result<(), NoMemory>
+fn collect(alloc: Global, raw: &Raw, forms: &mut Atoms) -> Result<(), NoMemory>
     requires { is_moderate raw.now ≡ true }
     ensures forms { OnOk result (forms.new ≡ with_forms forms.old (forms_of raw.now)) }
     ensures begins { OnOk result (all_begin_well raw.now ≡ true) }
@@ -77,18 +56,6 @@ fn collect(alloc: Global, raw: &Raw, forms: &mut List<Lin>) -> Result<(), NoMemo
         Raw::And(parts) => collect_all(alloc, parts.as_slice(), forms),
         Raw::Or(parts) => collect_all(alloc, parts.as_slice(), forms),
     }
-}
-
-/// The place of a form among these; their number where it is none of them.
-fn place_of(forms: &[Lin], form: &Lin) -> usize
-    ensures { result ≡ place_of forms.now form.now }
-{
-    for (at, other) in forms.iter().enumerate() {
-        if same_form(form, other) {
-            return at;
-        }
-    }
-    forms.len()
 }
 
 /// The node of an atom. More than 2^32 atoms are refused as want of memory.
@@ -120,14 +87,14 @@ fn without_unknowns(alloc: Global, constant: i64) -> Node
 }
 
 /// The tree of a form's atom, over these canonical atoms.
-fn place_form(alloc: Global, form: &Lin, forms: &[Lin]) -> Result<Node, NoMemory>
+fn place_form(alloc: Global, form: &Lin, forms: &Atoms) -> Result<Node, NoMemory>
     requires { nat_le (unsigned_abs form.now.constant) moderate_most ≡ true }
     ensures { IfOk result (λ node. node ≡ placed_form forms.now form.now form.now.factors) }
 {
     if form.factors().is_empty() {
         return Ok(without_unknowns(alloc, form.constant()));
     }
-    let atom = atom_at(place_of(forms, &canonical(alloc, form)?))?;
+    let atom = atom_at(forms.place_of(canonical(alloc, form)?))?;
     if is_positive(form.factors()) {
         Ok(atom)
     } else {
@@ -137,7 +104,7 @@ fn place_form(alloc: Global, form: &Lin, forms: &[Lin]) -> Result<Node, NoMemory
 
 /// The trees of some formulas over these canonical atoms.
 #[cycle(place)]
-fn place_all(alloc: Global, parts: &[Raw], forms: &[Lin]) -> Result<List<Node>, NoMemory>
+fn place_all(alloc: Global, parts: &[Raw], forms: &Atoms) -> Result<List<Node>, NoMemory>
     requires { list_all is_moderate parts.now ≡ true }
     ensures { IfOk result (λ nodes. nodes ≡ map (placed forms.now) parts.now) }
 {
@@ -150,7 +117,7 @@ fn place_all(alloc: Global, parts: &[Raw], forms: &[Lin]) -> Result<List<Node>, 
 
 /// The tree of a formula over these canonical atoms.
 #[cycle(place)]
-fn place(alloc: Global, raw: &Raw, forms: &[Lin]) -> Result<Node, NoMemory>
+fn place(alloc: Global, raw: &Raw, forms: &Atoms) -> Result<Node, NoMemory>
     requires { is_moderate raw.now ≡ true }
     ensures { IfOk result (λ node. node ≡ placed forms.now raw.now) }
 {
@@ -208,8 +175,9 @@ pub fn settle(alloc: Global, raw: &Raw) -> Result<Formula, NoMemory>
     ensures same { IfOk result (λ formula. (x : ℕ → ℤ) → truth_at formula x ≡ raw_truth x raw.now) }
 {
     form_laws();
-    let mut forms = List::new(alloc);
+    let mut forms = Atoms::new(alloc);
     collect(alloc, raw, &mut forms)?;
-    let root = place(alloc, raw, forms.as_slice())?;
-    Ok(Formula::of_parts(forms, root))
+    let root = place(alloc, raw, &forms)?;
+    let atoms = forms.into_list(alloc)?;
+    Ok(Formula::of_parts(atoms, root))
 }

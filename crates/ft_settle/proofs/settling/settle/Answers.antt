@@ -16,8 +16,9 @@ of_parts-requires c =
     let forms : c.collect.new.forms ≡ with_forms [] (forms_of raw) = c.in_ok-collect.ensures.forms
     ∙ ap (λ (l : List LinView). with_forms l (forms_of raw)) c.new-forms.ensures in
     let root : c.in_ok-root.root ≡ placed (with_forms [] (forms_of raw)) raw = c.in_ok-root.ensures
-    ∙ ap (λ (l : List LinView). placed l raw) (c.as_slice.ensures ∙ forms) in
-    (λ i. atoms_below (length (forms i)) (root i)) ∙ (is-placed c.form_laws.ensures.literal c.form_laws.ensures.divided
+    ∙ ap (λ (l : List LinView). placed l raw) forms in
+    let atoms = c.in_ok-atoms.ensures ∙ forms in
+    (λ i. atoms_below (length (atoms i)) (root i)) ∙ (is-placed c.form_laws.ensures.literal c.form_laws.ensures.divided
     c.form_laws.ensures.quotient (with_forms [] (forms_of raw)) (λ u. pos 0) raw (has-all [] (forms_of raw))
     c.in_ok-collect.ensures.begins).below
 
@@ -27,13 +28,14 @@ returns-clause-same c x =
     let forms : c.collect.new.forms ≡ with_forms [] (forms_of raw) = c.in_ok-collect.ensures.forms
     ∙ ap (λ (l : List LinView). with_forms l (forms_of raw)) c.new-forms.ensures in
     let root : c.in_ok-root.root ≡ placed (with_forms [] (forms_of raw)) raw = c.in_ok-root.ensures
-    ∙ ap (λ (l : List LinView). placed l raw) (c.as_slice.ensures ∙ forms) in
+    ∙ ap (λ (l : List LinView). placed l raw) forms in
+    let atoms = c.in_ok-atoms.ensures ∙ forms in
     let whole : ◌≡◌ {A = FormulaView} c.of_parts.result (record {
       atoms = with_forms [] (forms_of raw);
       root =
           placed (with_forms [] (forms_of raw)) raw;
     }) =
-    c.of_parts.ensures ∙ (λ i. record { atoms = forms i; root = root i }) in
+    c.of_parts.ensures ∙ (λ i. record { atoms = atoms i; root = root i }) in
     ap (λ (f : FormulaView). truth_at f x) whole ∙ (is-placed c.form_laws.ensures.literal c.form_laws.ensures.divided
     c.form_laws.ensures.quotient (with_forms [] (forms_of raw)) x raw (has-all [] (forms_of raw)) c.in_ok-collect.ensures.begins).same
 
@@ -42,7 +44,7 @@ returns-clause-canonical c =
     let raw = c.args.raw.now in
     let forms : c.collect.new.forms ≡ with_forms [] (forms_of raw) = c.in_ok-collect.ensures.forms
     ∙ ap (λ (l : List LinView). with_forms l (forms_of raw)) c.new-forms.ensures in
-    subst (All IsCanonical) (sym (ap (λ (f : FormulaView). f.atoms) c.of_parts.ensures ∙ forms))
+    subst (All IsCanonical) (sym (ap (λ (f : FormulaView). f.atoms) c.of_parts.ensures ∙ c.in_ok-atoms.ensures ∙ forms))
     (all-with IsCanonical [] (forms_of raw) (All-nil IsCanonical) (forms-canonical c.form_laws.ensures.quotient raw
     c.in_ok-collect.ensures.begins))
 
@@ -51,7 +53,7 @@ returns-clause-different c =
     let raw = c.args.raw.now in
     let forms : c.collect.new.forms ≡ with_forms [] (forms_of raw) = c.in_ok-collect.ensures.forms
     ∙ ap (λ (l : List LinView). with_forms l (forms_of raw)) c.new-forms.ensures in
-    subst (IsDistinct same_form) (sym (ap (λ (f : FormulaView). f.atoms) c.of_parts.ensures ∙ forms))
+    subst (IsDistinct same_form) (sym (ap (λ (f : FormulaView). f.atoms) c.of_parts.ensures ∙ c.in_ok-atoms.ensures ∙ forms))
     (distinct-with [] (forms_of raw) none-distinct)
 
 pub returns-clause-numbered : goal.returns-clause-numbered
@@ -59,5 +61,5 @@ returns-clause-numbered c =
     let raw = c.args.raw.now in
     let forms : c.collect.new.forms ≡ with_forms [] (forms_of raw) = c.in_ok-collect.ensures.forms
     ∙ ap (λ (l : List LinView). with_forms l (forms_of raw)) c.new-forms.ensures in
-    subst (AreFirstOccurrences (forms_of raw)) (sym (ap (λ (f : FormulaView). f.atoms) c.of_parts.ensures ∙ forms))
+    subst (AreFirstOccurrences (forms_of raw)) (sym (ap (λ (f : FormulaView). f.atoms) c.of_parts.ensures ∙ c.in_ok-atoms.ensures ∙ forms))
     (first-occurrences [] (forms_of raw) [] none-occurs)
