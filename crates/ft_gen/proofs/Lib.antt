@@ -1,0 +1,4 @@
+pub mod BareLemmas
+pub mod DraftLemmas
+pub mod ItemLemmas
+pub mod TextLemmas

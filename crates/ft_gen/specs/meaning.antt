@@ -1,0 +1,3 @@
+-- What has to be believed.
+pub mod Generated
+pub mod Places
