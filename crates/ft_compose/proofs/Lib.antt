@@ -9,6 +9,7 @@ pub mod MarksLemmas
 pub mod Numbered
 pub mod RankLemmas
 pub mod BlockLemmas
+pub mod CertsLemmas
 pub mod ScanLemmas
 pub mod StateLemmas
 pub mod DecideLemmas

@@ -1,7 +1,9 @@
-//! The blocks of a set: the obligations of their facts, and what the facts come to together.
+//! The blocks of a set: the obligations of their facts, what the facts come to together, and the check of certificates of all
+//! obligations of a set.
 #![tactic(auto)]
 
 mod blocks;
+mod checking;
 mod deciding;
 mod definitions;
 mod facts;
@@ -16,6 +18,7 @@ mod sharing;
 mod telling;
 
 pub use blocks::{Blocks, Cells};
+pub use checking::{CertsFault, check_certs};
 pub use deciding::decide_blocks;
 pub use definitions::Definitions;
 pub use facts::{fact_obligation, numbered_fact};

@@ -33,6 +33,7 @@ use Rattle.ft_oblige.specs.meaning.Tried.{IsClosedBy, IsSpentIn}
 use Rattle.ft_cover.specs.building.Numbering.{number_of}
 use Rattle.ft_cover.specs.declared.answer.Cover.{Cover}
 use Rattle.ft_cover.specs.declared.answer.Cover.TheVariants.{Proper, Gap, Overlap, OutOfRange, Spent}
+use Rattle.ft_cover.specs.laws.ClosedLaws.{IsClosed, ClosedTablesAreProper}
 use Rattle.ft_cover.specs.laws.Laws.{Laws}
 use Rattle.ft_cover.specs.meaning.Attempted.{IsClosedAt, AreClosed}
 use Rattle.ft_cover.specs.meaning.Covered.{IsCertOf, AreCerts, IsSpentAt, IsShownAt, IsFound, IsCover, IsFaultless, NoCell}
@@ -131,19 +132,24 @@ proper_by laws S k table there closes o (of_fact b f block fact anew marks subje
     absurd (true≢false (sym (ap is_table (same_subject S (number_of k gap) (about_fact b f anew) (about_table k gap) subject
     (numbered-as laws S k table there gap)))))
 
-pub all_proper : (laws : Laws) (S : Tables) (keep : Bool) (n : ℕ) (certs : List Tree) → 3 * length S.tables ≤ n → AreClosed S keep n certs
-    → AllProper S
-all_proper laws S keep n certs all closed k table there =
+pub tables_proper : (laws : Laws) → ClosedTablesAreProper
+tables_proper laws S closed k table there =
     let l = slice_get_within S.tables k table there in
-    let first = closed.each (3 * k) (omega (arith, l, all)) in
-    proper_by laws S k table there (λ fault. closes l fault) first.1.obliged first.1.there
+    let first = closed (3 * k + 1) (omega arith) (omega (arith, l)) in
+    proper_by laws S k table there (λ fault. closes l fault) first.obliged first.there
   where
     closes : k < length S.tables → (fault : Fault) → Closes S (number_of k fault)
-    closes l gap = (closed.each (3 * k) (omega (arith, l, all))).1.closes
-    closes l overlap = let e : (3 * k + 1) + 1 ≡ 3 * k + 2 = omega arith in
-        subst (Closes S) e (closed.each (3 * k + 1) (omega (arith, l, all))).1.closes
-    closes l range = let e : (3 * k + 2) + 1 ≡ 3 * k + 3 = omega arith in
-        subst (Closes S) e (closed.each (3 * k + 2) (omega (arith, l, all))).1.closes
+    closes l gap = (closed (3 * k + 1) (omega arith) (omega (arith, l))).closes
+    closes l overlap = (closed (3 * k + 2) (omega arith) (omega (arith, l))).closes
+    closes l range = (closed (3 * k + 3) (omega arith) (omega (arith, l))).closes
+
+pub all_proper : (laws : Laws) (S : Tables) (keep : Bool) (n : ℕ) (certs : List Tree) → 3 * length S.tables ≤ n → AreClosed S keep n certs
+    → AllProper S
+all_proper laws S keep n certs all closed = tables_proper laws S (λ m some below.
+    let i = m - 1 in
+    let e : i + 1 ≡ m = omega (arith, some) in
+    let one = (closed.each i (omega (arith, some, below, all))).1 in
+    subst (IsClosed S) e (record { obliged = one.obliged; there = one.there; closes = one.closes }))
 
 -- what the first obligation that isn't closed shows
 pub stopped : (S : Tables) (keep : Bool) (n : ℕ) (certs : List Tree) (cover : Cover) → AreClosed S keep n certs → IsFound S (n + 1) cover

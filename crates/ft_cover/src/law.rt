@@ -1,3 +1,4 @@
+ghost use Rattle.ft_cover.specs.laws.ClosedLaws.{ClosedTablesAreProper};
 ghost use Rattle.ft_cover.specs.laws.KeptLaws.{NamesHaveValues, SlotsAreKept, SlotsDiffer};
 ghost use Rattle.ft_cover.specs.laws.Laws.{Laws};
 
@@ -25,3 +26,10 @@ pub fn kept_laws()
     ensures values { NamesHaveValues }
     ensures kept { SlotsAreKept }
 {}
+
+/// Where each obligation of a table has no point, every table of the set is proper.
+pub fn closed_laws()
+    ensures { ClosedTablesAreProper }
+{
+    laws();
+}

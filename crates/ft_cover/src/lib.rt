@@ -13,5 +13,5 @@ mod trying;
 pub use answer::Cover;
 pub use covering::{add_cert, cover};
 pub use kept::{Kept, first_values};
-pub use law::kept_laws;
+pub use law::{closed_laws, kept_laws};
 pub use placing::{Wanted, places};
