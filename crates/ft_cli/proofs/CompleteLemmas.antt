@@ -179,6 +179,7 @@ module _ (laws : Laws) (bytes : List ℕ) (S : Tables) (spelled : IsSetOfText by
   complete (report.Spent T (NatList n) tree (Some known)) means = absurd means
   complete (report.Verified T list) means = the-set T means.spelled
   complete (report.Refuted T list scan) means = the-set T means.tried.spelled
+  complete (report.Demo n T list) means = absurd means
   complete (report.Agree scans) means = absurd means
   complete (report.Differ scan) means = absurd means
   complete (report.TraceRefused fault) means = absurd means
@@ -209,6 +210,7 @@ module _ (laws : Laws) (bytes : List ℕ) (S : Tables) (spelled : IsSetOfText by
   verifies (report.Refuted T list scan) means close lists =
       let here = subst (λ (U : Tables). IsRefuted bytes U list scan) (the-set T means.tried.spelled) means in
       not-refuted laws S no_fault close here.tried.proper list scan here.shortest.differs
+  verifies (report.Demo n T list) means close lists = absurd means
   verifies (report.Agree scans) means close lists = absurd means
   verifies (report.Differ scan) means close lists = absurd means
   verifies (report.TraceRefused fault) means close lists = absurd means
@@ -242,6 +244,7 @@ module _ (laws : Laws) (bytes : List ℕ) (S : Tables) (spelled : IsSetOfText by
       refines-none T means.refines difference.list difference.scan
       (subst (λ (U : Tables). FirstDiffers U difference.list difference.scan) (sym (the-set T means.spelled)) difference.differs)
   refutes (report.Refuted T list scan) means difference = tt
+  refutes (report.Demo n T list) means difference = absurd means
   refutes (report.Agree scans) means difference = absurd means
   refutes (report.Differ scan) means difference = absurd means
   refutes (report.TraceRefused fault) means difference = absurd means
@@ -269,6 +272,7 @@ module _ (laws : Laws) (bytes : List ℕ) (S : Tables) (spelled : IsSetOfText by
   decides (report.Spent T (NatList n) tree (Some known)) means enough = absurd means
   decides (report.Verified T list) means enough = tt
   decides (report.Refuted T list scan) means enough = tt
+  decides (report.Demo n T list) means enough = tt
   decides (report.Agree scans) means enough = tt
   decides (report.Differ scan) means enough = tt
   decides (report.TraceRefused fault) means enough = tt

@@ -9,9 +9,11 @@ use Rattle.ft_report.specs.declared.report.Report.TheVariants as report
 use Rattle.ft_report.specs.declared.short.Short.{Short}
 use Rattle.ft_report.specs.declared.short.Subject.{Subject}
 use Rattle.ft_report.specs.declared.short.Subject.TheVariants.{Obligation, NatList}
+use Rattle.ft_gen.specs.meaning.Generated.{generated}
+use Rattle.ft_cli.specs.meaning.Generation.{IsDemo, IsGenerated}
 use Rattle.ft_cli.specs.meaning.Judgement.{IsJudgement, IsPrint, IsSpentOn}
 use Rattle.ft_cli.specs.meaning.Replay.{IsRun}
-use Rattle.ft_cli.specs.Top.{Command, verify, print, replay, Use, Means, IsReplay, stopped, ran}
+use Rattle.ft_cli.specs.Top.{Command, verify, print, replay, gen, demo, Use, Means, IsReplay, stopped, ran}
 use Rattle.ft_cli.specs.Top.{IsOutcome, usage, read_fault, too_long, no_memory, content}
 
 -- an obligation of a table or of a fact is one of all
@@ -46,6 +48,7 @@ judged-fits bytes (report.Fails S n req out state short) means = let (same, is, 
 judged-fits bytes (report.Spent S subject tree short) means = spent-fits bytes S subject tree short means
 judged-fits bytes (report.Verified S list) means = means.allowed.monitored_list.values
 judged-fits bytes (report.Refuted S list scan) means = means.shortest.differs.runs.allowed.monitored_list.values
+judged-fits bytes (report.Demo n S list) means = absurd means
 judged-fits bytes (report.Agree scans) means = tt
 judged-fits bytes (report.Differ scan) means = tt
 judged-fits bytes (report.TraceRefused fault) means = tt
@@ -67,6 +70,7 @@ printed-fits bytes (report.Fails S n req out state short) means = absurd means
 printed-fits bytes (report.Spent S subject tree short) means = absurd means
 printed-fits bytes (report.Verified S list) means = absurd means
 printed-fits bytes (report.Refuted S list scan) means = absurd means
+printed-fits bytes (report.Demo n S list) means = absurd means
 printed-fits bytes (report.Agree scans) means = tt
 printed-fits bytes (report.Differ scan) means = tt
 printed-fits bytes (report.TraceRefused fault) means = tt
@@ -88,6 +92,7 @@ run-fits S bytes (report.Fails T n req out state short) means = absurd means
 run-fits S bytes (report.Spent T subject tree short) means = absurd means
 run-fits S bytes (report.Verified T list) means = absurd means
 run-fits S bytes (report.Refuted T list scan) means = absurd means
+run-fits S bytes (report.Demo n T list) means = absurd means
 run-fits S bytes (report.Agree scans) means = tt
 run-fits S bytes (report.Differ scan) means = tt
 run-fits S bytes (report.TraceRefused fault) means = tt
@@ -97,10 +102,57 @@ replay-fits : (set trace : Use) (r : Report) → IsReplay set trace r → IsFitt
 replay-fits set trace r (stopped bytes read early means) = judged-fits bytes r means
 replay-fits set trace r (ran S has text read run) = run-fits S _ r run
 
+-- a generated set that is printed tells nothing of a set
+generated-fits : (n : ℕ) (r : Report) → IsGenerated n r → IsFitting r
+generated-fits n report.Usage means = tt
+generated-fits n report.ReadFault means = tt
+generated-fits n (report.TooLong which) means = tt
+generated-fits n report.NoMemory means = tt
+generated-fits n (report.Refused fault) means = tt
+generated-fits n (report.Printed tree) means = tt
+generated-fits n (report.Gap S k state) means = tt
+generated-fits n (report.Overlap S k first second state) means = tt
+generated-fits n (report.OutOfRange S k cell state) means = tt
+generated-fits n (report.NatStops k) means = tt
+generated-fits n (report.Fails S k req out state short) means = absurd means
+generated-fits n (report.Spent S subject tree short) means = absurd means
+generated-fits n (report.Verified S list) means = absurd means
+generated-fits n (report.Demo k S list) means = absurd means
+generated-fits n (report.Refuted S list scan) means = absurd means
+generated-fits n (report.Agree scans) means = tt
+generated-fits n (report.Differ scan) means = tt
+generated-fits n (report.TraceRefused fault) means = tt
+generated-fits n (report.NatRefuses scan) means = tt
+
+-- and one that is judged fits as the set of a text does
+demo-fits : (n : ℕ) (r : Report) → IsDemo n r → IsFitting r
+demo-fits n report.Usage means = tt
+demo-fits n report.ReadFault means = tt
+demo-fits n (report.TooLong which) means = tt
+demo-fits n report.NoMemory means = tt
+demo-fits n (report.Refused fault) means = tt
+demo-fits n (report.Printed tree) means = tt
+demo-fits n (report.Gap S k state) means = tt
+demo-fits n (report.Overlap S k first second state) means = tt
+demo-fits n (report.OutOfRange S k cell state) means = tt
+demo-fits n (report.NatStops k) means = tt
+demo-fits n (report.Fails S k req out state short) means =
+    judged-fits (generated n) (report.Fails S k req out state short) means
+demo-fits n (report.Spent S subject tree short) means = spent-fits (generated n) S subject tree short means
+demo-fits n (report.Verified S list) means = absurd means
+demo-fits n (report.Demo k S list) (same, means) = means.allowed.monitored_list.values
+demo-fits n (report.Refuted S list scan) means = means.shortest.differs.runs.allowed.monitored_list.values
+demo-fits n (report.Agree scans) means = tt
+demo-fits n (report.Differ scan) means = tt
+demo-fits n (report.TraceRefused fault) means = tt
+demo-fits n (report.NatRefuses scan) means = tt
+
 means-fits : (uses : List ℕ → Use) (asked : Command) (r : Report) → Means uses asked r → IsFitting r
 means-fits uses (verify file) r (bytes, read, means) = judged-fits bytes r means
 means-fits uses (print file) r (bytes, read, means) = printed-fits bytes r means
 means-fits uses (replay file trace) r means = replay-fits (uses file) (uses trace) r means
+means-fits uses (gen n) r means = generated-fits n r means
+means-fits uses (demo n) r means = demo-fits n r means
 
 pub outcome-fits : (command : Option Command) (uses : List ℕ → Use) (r : Report) → IsOutcome command uses r → IsFitting r
 outcome-fits command uses r outcome = elim outcome [

@@ -1,8 +1,10 @@
 pub mod CompleteLemmas
 pub mod DifferenceLemmas
 pub mod FittingLemmas
+pub mod GenerationLemmas
 pub mod JudgingLemmas
 pub mod MarkLemmas
+pub mod NumberLemmas
 pub mod ReplayLemmas
 pub mod ReplayedLemmas
 pub mod TopLemmas

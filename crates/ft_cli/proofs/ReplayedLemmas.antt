@@ -58,6 +58,7 @@ early-status (report.OutOfRange S k cell state) early zero_is = omega (arith, ze
 early-status (report.Spent S subject tree short) early zero_is = omega (arith, zero_is)
 early-status (report.Verified S list) early zero_is = early
 early-status (report.Refuted S list scan) early zero_is = early
+early-status (report.Demo n S list) early zero_is = early
 early-status (report.Agree scans) early zero_is = early
 early-status (report.Differ scan) early zero_is = early
 early-status (report.TraceRefused fault) early zero_is = early
@@ -94,6 +95,7 @@ agreed set_use trace_use S text proper read (report.OutOfRange T k cell state) r
 agreed set_use trace_use S text proper read (report.Spent T subject tree short) run zero_is = absurd run
 agreed set_use trace_use S text proper read (report.Verified T list) run zero_is = absurd run
 agreed set_use trace_use S text proper read (report.Refuted T list scan) run zero_is = absurd run
+agreed set_use trace_use S text proper read (report.Demo n T list) run zero_is = absurd run
 
 replay-agrees : (set_use trace_use : Use) (r : Report) → IsReplay set_use trace_use r → status_of r ≡ 0 → HasAgreement set_use trace_use r
 replay-agrees set_use trace_use r means zero_is = elim means [
@@ -174,6 +176,7 @@ module _ (by_scan : AllowedByScan) (in_front_law : ReadInFront) (S : Tables) whe
   run-decided one bytes list spelled allowed (report.Spent T subject tree short) run = absurd run
   run-decided one bytes list spelled allowed (report.Verified T list2) run = run
   run-decided one bytes list spelled allowed (report.Refuted T list2 scan) run = run
+  run-decided one bytes list spelled allowed (report.Demo n T list2) run = run
 
 -- of a set without a fault, with proper tables, only a spent search comes early
 early-decided : ProperShowsNone → OneSet → (bytes : List ℕ) (S : Tables) (list : Scans) → IsSetOfText bytes S
@@ -205,6 +208,7 @@ early-decided shows one_set bytes S list spelled blocks proper (report.Spent T (
 early-decided shows one_set bytes S list spelled blocks proper (report.Spent T (Obligation n) tree None) early means =
     let same = one_set bytes T S means.0 spelled in
     (same, subst (λ (U : Tables). IsSpentAt U n tree) same (spent-at T n tree means.1))
+early-decided shows one_set bytes S list spelled blocks proper (report.Demo n T other) early means = early
 early-decided shows one_set bytes S list spelled blocks proper (report.Agree scans) early means = absurd means
 early-decided shows one_set bytes S list spelled blocks proper (report.Differ scan) early means = absurd means
 early-decided shows one_set bytes S list spelled blocks proper (report.TraceRefused fault) early means = means
@@ -269,6 +273,7 @@ at-scan S list scan differs (report.Overlap T k first second state) on = on
 at-scan S list scan differs (report.OutOfRange T k cell state) on = on
 at-scan S list scan differs (report.Verified T other) on = on
 at-scan S list scan differs (report.Refuted T other place) on = on
+at-scan S list scan differs (report.Demo n T other) on = on
 at-scan S list scan differs (report.TraceRefused fault) on = on
 at-scan S list scan differs (report.NatRefuses place) on = on
 

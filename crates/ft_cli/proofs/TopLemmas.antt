@@ -1,6 +1,6 @@
 -- What comes of a command is an outcome, and what an outcome with each status is.
 use Rattle.std.proofs.Common.{◌≡◌, ◌⊎◌, inl, inr, ◌∙◌, ap, sym, refl, subst, ℕ, zero, suc, ◌+◌}
-use Rattle.std.proofs.Common.{◌*◌, ◌<◌, ◌≤◌, ℤ, Bool, true, false, ◌-◌, drop, length, length-drop, map, take, List, [], ◌∷◌, Option, Some}
+use Rattle.std.proofs.Common.{◌||◌, ◌*◌, ◌<◌, ◌≤◌, ℤ, Bool, true, false, ◌-◌, drop, length, length-drop, map, take, List, [], ◌∷◌, Option, Some}
 use Rattle.std.proofs.Common.{None, IfSome, if◌then◌else◌, codes, arith}
 use Rattle.std.specs.Prelude.{Err}
 use Rattle.std.specs.List.{All, Contains}
@@ -36,14 +36,19 @@ use Rattle.ft_admit.specs.meaning.TreeFaults.{HasNoFault}
 use Rattle.ft_admit.specs.meaning.Trees.{set_of_tree}
 use Rattle.ft_admit.specs.declared.set_fault.SetFault.{SetFault}
 use Rattle.ft_admit.specs.declared.set_fault.SetFault.TheVariants as set
+use Rattle.ft_tree.specs.meaning.Canonical.{canonical}
+use Rattle.ft_gen.specs.meaning.Generated.{generated}
+use Rattle.ft_cli.specs.meaning.Generation.{IsDemo, IsGenerated}
 use Rattle.ft_cli.specs.meaning.Judgement.{IsJudgement, IsPrint, IsRefused}
 use Rattle.ft_report.specs.meaning.Report.{status_of}
-use Rattle.ft_cli.specs.Top.{Command, verify, print, replay, files_of, file_for}
+use Rattle.ft_cli.specs.Top.{Command, verify, print, replay, gen, demo, files_of, file_for}
+use Rattle.ft_cli.specs.Top.{command_of, command_on_number, set_number, Generates, HasDemo}
 use Rattle.ft_cli.specs.Top.{Names, NoOthers, limit_of, Use, IsRead, CanBeRead, NamesKnown}
 use Rattle.ft_cli.specs.Top.{Means, IsOutcome, usage, read_fault, too_long, no_memory, content, HasStatus, HasHeadline}
 use Rattle.ft_cli.specs.Top.{CanBePrinted, HasRefutation, OfEachSet, PrintsAll}
-use Rattle.ft_cli.specs.stages.Command.{IsUnfetched, report_on_error, report_on_fault, report_on_unread}
+use Rattle.ft_cli.specs.stages.Command.{HasNumber, IsUnfetched, report_on_error, report_on_fault, report_on_unread}
 use Rattle.ft_cli.specs.stages.Command as unfetched
+use Rattle.ft_cli.proofs.NumberLemmas.{number-within}
 use Rattle.ft_report.specs.declared.report.Which.{Which}
 use Rattle.ft_report.specs.declared.report.Which.TheVariants.{Set, Trace}
 use Rattle.ft_report.specs.declared.report.Report.{Report}
@@ -98,15 +103,31 @@ refused bytes set.NoMemory is only = tt
 abbrev HasFiles : List (List ℕ) → Option Command → Type 0
 HasFiles names command = IfSome command (λ c. All (Contains names) (files_of c))
 
+-- a command on a number reads no file
+without-files : (names : List (List ℕ)) (name word : List ℕ) → HasFiles names (command_on_number name word)
+without-files names name word = by_tests (bytes_eq name (codes "gen")) (bytes_eq name (codes "demo")) (set_number word)
+  where
+    none : All (Contains names) []
+    none k file less = absurd (omega (arith, less))
+
+    by_tests : (a b : Bool) (number : Option ℕ)
+        → HasFiles names (if a then option_map (λ n. gen n) number else (if b then option_map (λ n. demo n) number else None))
+    by_tests true b (Some n) = none
+    by_tests true b None = tt
+    by_tests false true (Some n) = none
+    by_tests false true None = tt
+    by_tests false false number = tt
+
 -- the words after the first have the names of the files
 pub known-after : (first : List ℕ) (rest : List (List ℕ)) → NamesKnown (first ∷ rest) rest
 known-after first [] = tt
-known-after first (file ∷ []) = by_tests (bytes_eq first (codes "verify")) (bytes_eq first (codes "print"))
+known-after first (word ∷ []) = by_tests (bytes_eq first (codes "verify") || bytes_eq first (codes "verify-json")) (bytes_eq first (codes "print"))
   where
-    by_tests : (a b : Bool) → HasFiles (file ∷ []) (if a then Some (verify file) else (if b then Some (print file) else None))
-    by_tests true b = All-contains_itself (file ∷ [])
-    by_tests false true = All-contains_itself (file ∷ [])
-    by_tests false false = tt
+    by_tests : (a b : Bool)
+        → HasFiles (word ∷ []) (if a then Some (verify word) else (if b then Some (print word) else command_on_number first word))
+    by_tests true b = All-contains_itself (word ∷ [])
+    by_tests false true = All-contains_itself (word ∷ [])
+    by_tests false false = without-files (word ∷ []) first word
 known-after first (file ∷ trace ∷ []) = by_test (bytes_eq first (codes "replay"))
   where
     by_test : (a : Bool) → HasFiles (file ∷ trace ∷ []) (if a then Some (replay file trace) else None)
@@ -236,6 +257,7 @@ earned u bytes (report.Gap T k state) file means zero_is = absurd (omega arith)
 earned u bytes (report.Overlap T k first second state) file means zero_is = absurd (omega arith)
 earned u bytes (report.OutOfRange T k cell state) file means zero_is = absurd (omega arith)
 earned u bytes (report.Spent T subject tree short) file means zero_is = absurd (omega arith)
+earned u bytes (report.Demo n S list) file means zero_is = absurd means
 earned u bytes (report.Agree scans) file means zero_is = absurd means
 earned u bytes (report.Differ scan) file means zero_is = absurd means
 earned u bytes (report.TraceRefused fault) file means zero_is = absurd means
@@ -257,6 +279,7 @@ differed u bytes (report.Gap T k state) file means one_is = absurd (omega arith)
 differed u bytes (report.Overlap T k first second state) file means one_is = absurd (omega arith)
 differed u bytes (report.OutOfRange T k cell state) file means one_is = absurd (omega arith)
 differed u bytes (report.Spent T subject tree short) file means one_is = absurd (omega arith)
+differed u bytes (report.Demo n S list) file means one_is = absurd means
 differed u bytes (report.Agree scans) file means one_is = absurd means
 differed u bytes (report.Differ scan) file means one_is = absurd means
 differed u bytes (report.TraceRefused fault) file means one_is = absurd means
@@ -420,6 +443,7 @@ printed u tree can (report.Gap T k state) means = absurd means
 printed u tree can (report.Overlap T k first second state) means = absurd means
 printed u tree can (report.OutOfRange T k cell state) means = absurd means
 printed u tree can (report.Spent T subject spent short) means = absurd means
+printed u tree can (report.Demo n S list) means = absurd means
 printed u tree can (report.Agree scans) means = absurd means
 printed u tree can (report.Differ scan) means = absurd means
 printed u tree can (report.TraceRefused fault) means = absurd means
@@ -433,3 +457,120 @@ prints command uses r outcome file tree named can still =
           (subst (λ bytes. IsPrint bytes r) (sym (read-is (uses file) (limit_of Set) can.bytes means.0 can.file means.1)) means.2)
       | inr none ↦ inr none
     ]
+
+-- the tree of a generated set is the one that is printed
+generated-tree : (n : ℕ) (r : Report) → IsGenerated n r
+    → ((tree : Tree) × (r ≡ report.Printed tree) × (canonical tree ≡ generated n)) ⊎ (r ≡ report.NoMemory)
+generated-tree n (report.Printed tree) means = inl (tree, refl, means)
+generated-tree n report.NoMemory means = inr refl
+generated-tree n report.Usage means = absurd means
+generated-tree n report.ReadFault means = absurd means
+generated-tree n (report.TooLong which) means = absurd means
+generated-tree n (report.Refused fault) means = absurd means
+generated-tree n (report.NatStops k) means = absurd means
+generated-tree n (report.Fails T k req out state short) means = absurd means
+generated-tree n (report.Verified S list) means = absurd means
+generated-tree n (report.Demo k S list) means = absurd means
+generated-tree n (report.Refuted S list scan) means = absurd means
+generated-tree n (report.Gap T k state) means = absurd means
+generated-tree n (report.Overlap T k first second state) means = absurd means
+generated-tree n (report.OutOfRange T k cell state) means = absurd means
+generated-tree n (report.Spent T subject spent short) means = absurd means
+generated-tree n (report.Agree scans) means = absurd means
+generated-tree n (report.Differ scan) means = absurd means
+generated-tree n (report.TraceRefused fault) means = absurd means
+generated-tree n (report.NatRefuses scan) means = absurd means
+
+pub generates : (command : Option Command) (uses : List ℕ → Use) (r : Report) → IsOutcome command uses r → Generates command r
+generates command uses r outcome n named =
+    elim (content-or-none command uses r outcome (gen n) named (λ which file is. absurd (none-some file is))
+    (λ file names. no-file file names)) [
+      | inl means ↦ generated-tree n r means
+      | inr none ↦ inr none
+    ]
+  where
+    no-file : (file : List ℕ) → Contains [] file → Rose (uses file).faults_before (uses file).faults_now → ⊥
+    no-file file (k, less, is) rose = omega (arith, less)
+
+-- the only report on a generated set with status 0 is that it is verified
+demonstrated : (n : ℕ) (r : Report) → IsDemo n r → status_of r ≡ 0 → HasDemo n r
+demonstrated n (report.Demo k S list) (same, means) zero_is =
+    record { set = S; list = list; is = ap (λ m. report.Demo m S list) same; means = means }
+demonstrated n report.Usage means zero_is = absurd means
+demonstrated n report.ReadFault means zero_is = absurd means
+demonstrated n (report.TooLong which) means zero_is = absurd means
+demonstrated n report.NoMemory means zero_is = absurd (omega (arith, zero_is))
+demonstrated n (report.Refused fault) means zero_is = absurd (omega (arith, zero_is))
+demonstrated n (report.Printed tree) means zero_is = absurd means
+demonstrated n (report.NatStops k) means zero_is = absurd (omega (arith, zero_is))
+demonstrated n (report.Fails T k req out state short) means zero_is = absurd (omega (arith, zero_is))
+demonstrated n (report.Verified S list) means zero_is = absurd means
+demonstrated n (report.Refuted S list scan) means zero_is = absurd (omega (arith, zero_is))
+demonstrated n (report.Gap T k state) means zero_is = absurd (omega (arith, zero_is))
+demonstrated n (report.Overlap T k first second state) means zero_is = absurd (omega (arith, zero_is))
+demonstrated n (report.OutOfRange T k cell state) means zero_is = absurd (omega (arith, zero_is))
+demonstrated n (report.Spent T subject tree short) means zero_is = absurd (omega (arith, zero_is))
+demonstrated n (report.Agree scans) means zero_is = absurd means
+demonstrated n (report.Differ scan) means zero_is = absurd means
+demonstrated n (report.TraceRefused fault) means zero_is = absurd means
+demonstrated n (report.NatRefuses scan) means zero_is = absurd means
+
+pub demonstration : (sink_before sink_now : ℕ) (ended : Ended) → HasStatus sink_before sink_now ended → (command : Option Command)
+    (uses : List ℕ → Use) → IsOutcome command uses ended.report → (n : ℕ) → command ≡ Some (demo n) → ended.status ≡ 0
+    → HasDemo n ended.report
+demonstration sink_before sink_now ended status command uses outcome n named zero_is =
+    let zero_told = own sink_before sink_now ended status command uses outcome 0 zero_is (λ e. omega (arith, e)) in
+    demonstrated n ended.report (content-below command uses ended.report outcome 0 (omega arith) zero_told (demo n) named) zero_told
+
+-- a report on a generated set is an outcome
+pub generated-outcome : (n : ℕ) (uses : List ℕ → Use) (r : Report) → IsGenerated n r → IsOutcome (Some (gen n)) uses r
+generated-outcome n uses r means = content (gen n) refl means
+
+pub demo-outcome : (n : ℕ) (uses : List ℕ → Use) (r : Report) → IsDemo n r → IsOutcome (Some (demo n)) uses r
+demo-outcome n uses r means = content (demo n) refl means
+
+-- a command on a number leaves every file
+pub none-read : (command : Command) (reach faults : List ℕ → ℕ) (reads : List ℕ → List Read)
+    → NoOthers (Some command) reach reach faults faults reads reads
+none-read command reach faults reads = record { reach = λ other not. refl; faults = λ other not. refl; reads = λ other not. refl }
+
+-- the number of a command that words are is that of a generated set
+numbered-made : (made : Option ℕ) → ((n : ℕ) → made ≡ Some n → (1 ≤ n) × (n ≤ 60)) → (with_number : ℕ → Command)
+    → ((n : ℕ) → (1 ≤ n) × (n ≤ 60) → HasNumber (with_number n)) → (c : Command) → option_map with_number made ≡ Some c → HasNumber c
+numbered-made (Some n) within with_number numbered c same = subst HasNumber (same_Some (with_number n) c same) (numbered n (within n refl))
+numbered-made None within with_number numbered c same = absurd (none-some c same)
+
+numbered-on : (name word : List ℕ) (c : Command) → command_on_number name word ≡ Some c → HasNumber c
+numbered-on name word c = by_tests (bytes_eq name (codes "gen")) (bytes_eq name (codes "demo"))
+  where
+    by_tests : (a b : Bool)
+        → (if a then option_map (λ n. gen n) (set_number word) else (if b then option_map (λ n. demo n) (set_number word) else None)) ≡ Some c
+        → HasNumber c
+    by_tests true b same = numbered-made (set_number word) (number-within word) (λ n. gen n) (λ n within. within) c same
+    by_tests false true same = numbered-made (set_number word) (number-within word) (λ n. demo n) (λ n within. within) c same
+    by_tests false false same = absurd (none-some c same)
+
+numbered : (words : List (List ℕ)) (c : Command) → command_of words ≡ Some c → HasNumber c
+numbered [] c same = absurd (none-some c same)
+numbered (name ∷ []) c same = absurd (none-some c same)
+numbered (name ∷ word ∷ []) c same = by_tests (bytes_eq name (codes "verify") || bytes_eq name (codes "verify-json"))
+    (bytes_eq name (codes "print")) same
+  where
+    by_tests : (a b : Bool)
+        → (if a then Some (verify word) else (if b then Some (print word) else command_on_number name word)) ≡ Some c → HasNumber c
+    by_tests true b is = subst HasNumber (same_Some (verify word) c is) tt
+    by_tests false true is = subst HasNumber (same_Some (print word) c is) tt
+    by_tests false false is = numbered-on name word c is
+numbered (name ∷ file ∷ trace ∷ []) c same = by_test (bytes_eq name (codes "replay")) same
+  where
+    by_test : (a : Bool) → (if a then Some (replay file trace) else None) ≡ Some c → HasNumber c
+    by_test true is = subst HasNumber (same_Some (replay file trace) c is) tt
+    by_test false is = absurd (none-some c is)
+numbered (name ∷ file ∷ trace ∷ other ∷ more) c same = absurd (none-some c same)
+
+pub numbered-by : {A : Type 0} (seen : A → Command) (made : Option A) (asked : A) (words : List (List ℕ))
+    → option_map seen made ≡ command_of words → made ≡ Some asked → HasNumber (seen asked)
+numbered-by seen made asked words of_words is = numbered words (seen asked) (sym of_words ∙ ap (option_map seen) is)
+
+pub numbered-as : (asked command : Command) → asked ≡ command → HasNumber asked → HasNumber command
+numbered-as asked command same has = subst HasNumber same has

@@ -1,7 +1,9 @@
 -- What the top call promises.
 use Rattle.std.specs.Prelude.{◌≡◌, ◌≢◌, ◌⊎◌, ◌++◌, take, length, ◌≤◌, ℕ, ℤ, List, [], ◌∷◌, Option, None, Some, codes, IfSome, if◌then◌else◌}
-use Rattle.std.specs.List.{All, Contains}
+use Rattle.std.specs.Prelude.{◌&&◌, ◌||◌, nat_le, Bool, option_map}
+use Rattle.std.specs.List.{All, Contains, list_all}
 use Rattle.std.specs.Str.{bytes_eq}
+use Rattle.ft_base.specs.Digits.{decimal_value, is_digit}
 use Rattle.ft_core.specs.declared.tables.Tables.{Tables}
 use Rattle.ft_mean.specs.meaning.Allowed.{Allowed}
 use Rattle.ft_mean.specs.meaning.Proper.{AllProper}
@@ -10,40 +12,68 @@ use Rattle.ft_port.specs.Causes.{Rose}
 use Rattle.ft_port.specs.Fetching.{HasReadFault, IsFile, IsTooLong}
 use Rattle.ft_port.specs.Reads.{Read, given}
 use Rattle.ft_tree.specs.declared.tree.Tree.{Tree}
+use Rattle.ft_tree.specs.meaning.Canonical.{canonical}
+use Rattle.ft_gen.specs.meaning.Generated.{generated}
 use Rattle.ft_parse.specs.meaning.Parse.{Spells}
 use Rattle.ft_blocks.specs.meaning.Faults.{HasNoBlockFault}
 use Rattle.ft_admit.specs.meaning.SetFaults.{IsSetOfText}
 use Rattle.ft_cover.specs.meaning.Covered.{IsSpentAt}
 use Rattle.ft_trace.specs.meaning.Spelling.{SpellsHistory}
 use Rattle.ft_stream.specs.meaning.Mark.{after_mark}
+use Rattle.ft_cli.specs.meaning.Generation.{IsDemo, IsGenerated}
 use Rattle.ft_cli.specs.meaning.Judgement.{IsJudgement, IsPrint, IsRefuted, IsVerified}
 use Rattle.ft_cli.specs.meaning.Replay.{IsEarly, IsRun}
 use Rattle.ft_report.specs.meaning.Report.{text_of, status_of}
+use Rattle.ft_json.specs.meaning.Json.{json_text}
 use Rattle.ft_report.specs.declared.report.Which.{Which}
 use Rattle.ft_report.specs.declared.report.Which.TheVariants.{Set, Trace}
 use Rattle.ft_report.specs.declared.short.Subject.TheVariants.{Obligation}
 use Rattle.ft_report.specs.declared.report.Report.{Report}
 use Rattle.ft_report.specs.declared.report.Report.TheVariants as report
 use Rattle.ft_cli.specs.declared.ended.Ended.{Ended}
+use Rattle.ft_cli.specs.declared.output.Output.{Output}
+use Rattle.ft_cli.specs.declared.output.Output.TheVariants.{Json, Lines}
 
--- what the words ask for: the verdict on the set in a file, its canonical text, or what its two sides do on the trace in another file
+-- what the words ask for: the verdict on the set in a file, its canonical text, what its two sides do on the trace in another file, the
+-- canonical text of the generated set of a number, or the verdict on it
 pub data Command : Type 0 where
   verify : (file : List ℕ) → Command
   print : (file : List ℕ) → Command
   replay : (file trace : List ℕ) → Command
+  gen : (number : ℕ) → Command
+  demo : (number : ℕ) → Command
 
--- the command of this name on this file
-abbrev pub command_named : (name file : List ℕ) → Option Command
-command_named name file =
-    if bytes_eq name (codes "verify") then Some (verify file) else (if bytes_eq name (codes "print") then Some (print file) else None)
+-- four digits or fewer
+abbrev pub is_short_number : List ℕ → Bool
+is_short_number word = nat_le (length word) 4 && list_all is_digit word
+
+-- there are generated sets from 1 to 60
+abbrev pub is_set_number : ℕ → Bool
+is_set_number n = nat_le 1 n && nat_le n 60
+
+-- the number of a generated set: one to four digits with a value of 1 to 60
+abbrev pub set_number : List ℕ → Option ℕ
+set_number word = if is_short_number word && is_set_number (decimal_value word) then Some (decimal_value word) else None
+
+-- the command of this name on a number
+abbrev pub command_on_number : (name word : List ℕ) → Option Command
+command_on_number name word =
+    if bytes_eq name (codes "gen") then option_map (λ n. gen n) (set_number word)
+    else (if bytes_eq name (codes "demo") then option_map (λ n. demo n) (set_number word) else None)
+
+-- the command of this name on this file, or on this number
+abbrev pub command_named : (name word : List ℕ) → Option Command
+command_named name word =
+    if bytes_eq name (codes "verify") || bytes_eq name (codes "verify-json") then Some (verify word)
+    else (if bytes_eq name (codes "print") then Some (print word) else command_on_number name word)
 
 -- the command of this name on the file of a set and that of a trace
 abbrev pub command_on_two : (name file trace : List ℕ) → Option Command
 command_on_two name file trace = if bytes_eq name (codes "replay") then Some (replay file trace) else None
 
--- the command of two words, its name and its file, or of three, its name and its two files
+-- the command of two words, its name and its file or its number, or of three, its name and its two files
 abbrev pub command_of : List (List ℕ) → Option Command
-command_of (name ∷ file ∷ []) = command_named name file
+command_of (name ∷ word ∷ []) = command_named name word
 command_of (name ∷ file ∷ trace ∷ []) = command_on_two name file trace
 command_of _ = None
 
@@ -52,6 +82,8 @@ abbrev pub files_of : Command → List (List ℕ)
 files_of (verify file) = file ∷ []
 files_of (print file) = file ∷ []
 files_of (replay file trace) = file ∷ trace ∷ []
+files_of (gen n) = []
+files_of (demo n) = []
 
 -- the file of this kind that a command reads
 abbrev pub file_for : Command → Which → Option (List ℕ)
@@ -61,6 +93,8 @@ file_for (print file) Set = Some file
 file_for (print file) Trace = None
 file_for (replay file trace) Set = Some file
 file_for (replay file trace) Trace = Some trace
+file_for (gen n) which = None
+file_for (demo n) which = None
 
 -- the files that the words name are the shelf's
 abbrev pub NamesKnown : List (List ℕ) → List (List ℕ) → Type 0
@@ -124,6 +158,8 @@ abbrev pub Means : (uses : List ℕ → Use) → Command → Report → Type 0
 Means uses (verify file) r = (bytes : List ℕ) × IsRead (uses file) (limit_of Set) bytes × IsJudgement bytes r
 Means uses (print file) r = (bytes : List ℕ) × IsRead (uses file) (limit_of Set) bytes × IsPrint bytes r
 Means uses (replay file trace) r = IsReplay (uses file) (uses trace) r
+Means uses (gen n) r = IsGenerated n r
+Means uses (demo n) r = IsDemo n r
 
 -- the words name this file
 abbrev pub Names : Option Command → List ℕ → Type 0
@@ -153,10 +189,23 @@ pub record NoOthers (command : Option Command) (reach_before reach_now faults_be
 abbrev pub HasStatus : (faults_before faults_now : ℕ) → Ended → Type 0
 HasStatus faults_before faults_now ended = (ended.status ≡ status_of ended.report) ⊎ ((ended.status ≡ 6) × Rose faults_before faults_now)
 
+-- the report is written line by line, and where the first word is `verify-json` as JSON
+abbrev pub output_named : (name : List ℕ) → Output
+output_named name = if bytes_eq name (codes "verify-json") then Json else Lines
+
+abbrev pub output_of : List (List ℕ) → Output
+output_of [] = Lines
+output_of (name ∷ words) = output_named name
+
+abbrev pub written_as : Output → Report → List ℕ
+written_as Lines r = text_of r
+written_as Json r = json_text r
+
 -- a sink that tells took the report's text and nothing else; with status 6 it took a first part of it
-pub record Writes (before now : Option (List ℕ)) (ended : Ended) : Type 0 where
-  pub all : (old : List ℕ) → before ≡ Some old → ended.status ≢ 6 → now ≡ Some (old ++ text_of ended.report)
-  pub part : (old : List ℕ) → before ≡ Some old → ended.status ≡ 6 → (n : ℕ) × (now ≡ Some (old ++ take n (text_of ended.report)))
+pub record Writes (output : Output) (before now : Option (List ℕ)) (ended : Ended) : Type 0 where
+  pub all : (old : List ℕ) → before ≡ Some old → ended.status ≢ 6 → now ≡ Some (old ++ written_as output ended.report)
+  pub part : (old : List ℕ) → before ≡ Some old → ended.status ≡ 6
+      → (n : ℕ) × (now ≡ Some (old ++ take n (written_as output ended.report)))
 
 -- the bytes that were read spell a set whose design refines its requirement, and the report keeps a list that is allowed and has
 -- `depth` scans
@@ -202,6 +251,19 @@ abbrev pub PrintsAll : Option Command → (List ℕ → Use) → Report → Type
 PrintsAll command uses r =
     (file : List ℕ) (tree : Tree) → command ≡ Some (print file) → CanBePrinted (uses file) tree
     → (Rose (uses file).faults_before (uses file).faults_now → ⊥) → (r ≡ report.Printed tree) ⊎ (r ≡ report.NoMemory)
+
+-- the report keeps a tree whose canonical text is that of the generated set; want of memory is free
+abbrev pub Generates : Option Command → Report → Type 0
+Generates command r =
+    (n : ℕ) → command ≡ Some (gen n)
+    → ((tree : Tree) × (r ≡ report.Printed tree) × (canonical tree ≡ generated n)) ⊎ (r ≡ report.NoMemory)
+
+-- the design of the generated set refines its requirement, and the report keeps its number and a list that is allowed and has `depth` scans
+pub record HasDemo (n : ℕ) (r : Report) : Type 0 where
+  pub set : Tables
+  pub list : List (List ℤ)
+  pub is : r ≡ report.Demo n set list
+  pub means : IsVerified (generated n) set list
 
 -- the bytes of T, after the mark where there is one, spell an allowed list on which the two sides differ nowhere, of the set that the bytes
 -- of F spell, whose tables are proper; the report keeps the number of its scans

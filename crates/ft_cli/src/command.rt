@@ -1,6 +1,8 @@
 ghost use Rattle.std.specs.Prelude.{◌≡◌, map, option_map, string_bytes};
-ghost use Rattle.ft_cli.specs.Top.{command_named, command_of, command_on_two};
+ghost use Rattle.ft_cli.specs.Top.{command_named, command_of, command_on_number, command_on_two};
 ghost use Rattle.ft_cli.specs.stages.Command.{asked_by};
+
+use crate::number::set_number;
 
 /// What the words ask for.
 #[derive(Clone, Copy, Drop)]
@@ -11,16 +13,31 @@ pub enum Command<'w> {
     Print(&'w str),
     /// What the two sides of the set in this file do on the trace in the other.
     Replay { file: &'w str, trace: &'w str },
+    /// The canonical text of the generated set of this number, from 1 to 60.
+    Gen(u32),
+    /// The verdict on the generated set of this number, from 1 to 60.
+    Demo(u32),
 }
 
-/// The command of this name on this file.
-fn command_named<'w>(name: &str, file: &'w str) -> Option<Command<'w>>
-    ensures { option_map asked_by result ≡ command_named name.now file.now }
+/// The command of this name on a number.
+fn command_on_number<'w>(name: &str, word: &str) -> Option<Command<'w>>
+    ensures { option_map asked_by result ≡ command_on_number name.now word.now }
+{
+    match (name, set_number(word.as_bytes())) {
+        ("gen", Some(number)) => Some(Command::Gen(number)),
+        ("demo", Some(number)) => Some(Command::Demo(number)),
+        _ => None,
+    }
+}
+
+/// The command of this name on this file, or on this number.
+fn command_named<'w>(name: &str, word: &'w str) -> Option<Command<'w>>
+    ensures { option_map asked_by result ≡ command_named name.now word.now }
 {
     match name {
-        "verify" => Some(Command::Verify(file)),
-        "print" => Some(Command::Print(file)),
-        _ => None,
+        "verify" | "verify-json" => Some(Command::Verify(word)),
+        "print" => Some(Command::Print(word)),
+        _ => command_on_number(name, word),
     }
 }
 
@@ -39,7 +56,7 @@ pub fn command_of(words: &[String]) -> Option<Command<'_>>
     ensures { option_map asked_by result ≡ command_of (map string_bytes words.now) }
 {
     match words {
-        [name, file] => command_named(name.as_str(), file.as_str()),
+        [name, word] => command_named(name.as_str(), word.as_str()),
         [name, file, trace] => command_on_two(name.as_str(), file.as_str(), trace.as_str()),
         _ => None,
     }

@@ -3,25 +3,27 @@ ghost use Rattle.std.specs.List.{All, Contains};
 ghost use Rattle.ft_port.specs.Causes.{one_more};
 ghost use Rattle.ft_port.specs.Shelf.{OthersStay};
 ghost use Rattle.ft_cli.specs.meaning.Judgement.{IsPrint};
-ghost use Rattle.ft_report.specs.meaning.Report.{text_of};
-ghost use Rattle.ft_cli.specs.Top.{command_of, files_of, use_of, print, replay};
+ghost use Rattle.ft_cli.specs.Top.{command_of, demo, files_of, use_of, output_of, print, replay, written_as};
+ghost use Rattle.ft_cli.specs.Top.{Generates, HasDemo};
 ghost use Rattle.ft_cli.specs.Top.{verify, NamesKnown, NoOthers, PrintsAll, IsOutcome, HasStatus};
 ghost use Rattle.ft_cli.specs.Top.{Writes, HasAgreement, HasHeadline, HasRefutation, OfEachSet, ReplaysAll, ReplaysRefuted};
 ghost use Rattle.ft_cli.specs.meaning.Completeness.{DecidesWithEnough, IsVerdictOn, RefutesDifferent, VerifiesClosed};
 ghost use Rattle.ft_report.specs.meaning.Fitting.{IsFitting};
-ghost use Rattle.ft_cli.specs.stages.Command.{asked_by};
+ghost use Rattle.ft_cli.specs.stages.Command.{HasNumber, asked_by};
 
 use crate::command::{Command, command_of};
 use crate::ended::Ended;
 use crate::fetching::fetched;
+use crate::generating::{demo, generated};
 use crate::judging::report_on_text;
 use crate::law::laws;
+use crate::output::Output;
 use crate::refusing::unread;
 use crate::replaying::replay;
 use ft_base::NoMemory;
 use ft_parse::parse;
 use ft_port::{Failed, Shelf, Sink};
-use ft_report::{Report, Which, report_text, status_for};
+use ft_report::{Report, Which, status_for};
 use std::alloc::Global;
 
 /// The words after the first. Where the words are a form, the names of its files are among these.
@@ -80,7 +82,8 @@ fn print_file<S: Shelf>(alloc: Global, file: &str, shelf: &mut S) -> Report
 
 /// What a command says of its files.
 fn report_by<S: Shelf>(alloc: Global, command: &Command, shelf: &mut S) -> Report
-    requires { All (Contains (S.names shelf.old)) (files_of (asked_by command.now)) }
+    requires known { All (Contains (S.names shelf.old)) (files_of (asked_by command.now)) }
+    requires number { HasNumber (asked_by command.now) }
     ensures outcome { IsOutcome (Some (asked_by command.now)) (use_of (S.content shelf.old) (S.reads shelf.new) (S.faults shelf.old)
         (S.faults shelf.new) (S.reach shelf.new)) result }
     ensures others { NoOthers (Some (asked_by command.now)) (S.reach shelf.old) (S.reach shelf.new) (S.faults shelf.old)
@@ -92,6 +95,8 @@ fn report_by<S: Shelf>(alloc: Global, command: &Command, shelf: &mut S) -> Repor
         Command::Verify(file) => verify(alloc, file, shelf),
         Command::Print(file) => print_file(alloc, file, shelf),
         Command::Replay { file, trace } => replay(alloc, file, trace, shelf),
+        Command::Gen(number) => generated(alloc, *number),
+        Command::Demo(number) => demo(alloc, *number),
     }
 }
 
@@ -113,11 +118,11 @@ fn report_on<S: Shelf>(alloc: Global, words: &[String], shelf: &mut S) -> Report
 }
 
 /// Writes the text of a report at once.
-fn write_report<K: Sink>(report: Report, text: &[u8], sink: &mut K) -> Ended
-    requires { text.now ≡ text_of report }
+fn write_report<K: Sink>(output: Output, report: Report, text: &[u8], sink: &mut K) -> Ended
+    requires { text.now ≡ written_as output report }
     ensures report { result.report ≡ report }
     ensures status { HasStatus (K.faults sink.old) (K.faults sink.new) result }
-    ensures written { Writes (K.taken sink.old) (K.taken sink.new) result }
+    ensures written { Writes output (K.taken sink.old) (K.taken sink.new) result }
     ensures once { K.writes sink.new ≡ one_more (K.writes sink.old) }
 {
     match sink.write(text) {
@@ -130,16 +135,16 @@ fn write_report<K: Sink>(report: Report, text: &[u8], sink: &mut K) -> Ended
 }
 
 /// Writes a report, or that there was no memory for its text.
-fn answer<K: Sink>(alloc: Global, report: Report, sink: &mut K) -> Ended
+fn answer<K: Sink>(alloc: Global, output: Output, report: Report, sink: &mut K) -> Ended
     requires { IsFitting report }
     ensures report { (result.report ≡ report) ⊎ (result.report ≡ Report.NoMemory) }
     ensures status { HasStatus (K.faults sink.old) (K.faults sink.new) result }
-    ensures written { Writes (K.taken sink.old) (K.taken sink.new) result }
+    ensures written { Writes output (K.taken sink.old) (K.taken sink.new) result }
     ensures once { K.writes sink.new ≡ one_more (K.writes sink.old) }
 {
-    match report_text(alloc, &report) {
-        Ok(text) => write_report(report, text.as_slice(), sink),
-        Err(NoMemory) => write_report(Report::NoMemory, b"no memory\n", sink),
+    match output.text_of(alloc, &report) {
+        Ok(text) => write_report(output, report, text.as_slice(), sink),
+        Err(NoMemory) => write_report(output, Report::NoMemory, output.no_memory(), sink),
     }
 }
 
@@ -180,12 +185,15 @@ pub fn run<S: Shelf, K: Sink>(alloc: Global, words: &[String], shelf: &mut S, si
     ensures others { NoOthers (command_of (map string_bytes words.now)) (S.reach shelf.old) (S.reach shelf.new) (S.faults shelf.old)
         (S.faults shelf.new) (S.reads shelf.old) (S.reads shelf.new) }
     ensures status { HasStatus (K.faults sink.old) (K.faults sink.new) result }
-    ensures written { Writes (K.taken sink.old) (K.taken sink.new) result }
+    ensures generates { Generates (command_of (map string_bytes words.now)) result.report }
+    ensures demonstrates { (n : ℕ) → command_of (map string_bytes words.now) ≡ Some (demo n) → result.status ≡ 0
+        → HasDemo n result.report }
+    ensures written { Writes (output_of (map string_bytes words.now)) (K.taken sink.old) (K.taken sink.new) result }
     ensures once { K.writes sink.new ≡ one_more (K.writes sink.old) }
     ensures content { S.content shelf.new ≡ S.content shelf.old }
     ensures names { S.names shelf.new ≡ S.names shelf.old }
 {
     laws();
     let report = report_on(alloc, words, shelf);
-    answer(alloc, report, sink)
+    answer(alloc, Output::of_words(words), report, sink)
 }

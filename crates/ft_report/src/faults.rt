@@ -2,6 +2,7 @@
 ghost use Rattle.std.specs.Prelude.{◌≡◌, ◌++◌, codes, map, IfOk, OnOk};
 ghost use Rattle.ft_report.specs.meaning.FaultText.{at_column, at_place, fault_text, kind_word, limit_word, listed, place_text};
 ghost use Rattle.ft_report.specs.meaning.FaultText.{trace_fault_text, why_word};
+ghost use Rattle.ft_report.specs.meaning.Report.{stops_words};
 ghost use Rattle.ft_report.specs.meaning.Words.{named, section_word};
 
 use crate::lines::{add_number, at_scan, named, section_word};
@@ -133,7 +134,7 @@ fn circle(alloc: Global, words: &[u8], names: &[Text]) -> Result<Text, NoMemory>
 }
 
 /// The text of a fault, without the end of its line.
-pub(crate) fn fault_line(alloc: Global, fault: &SetFault) -> Result<Text, NoMemory>
+pub fn fault_line(alloc: Global, fault: &SetFault) -> Result<Text, NoMemory>
     ensures { IfOk result (λ text. text ≡ fault_text fault.now) }
 {
     match fault {
@@ -174,6 +175,15 @@ pub(crate) fn fault_line(alloc: Global, fault: &SetFault) -> Result<Text, NoMemo
         SetFault::ShownTwice { name } => named(alloc, b"ShownTwice", name.as_slice()),
         SetFault::NoMemory => List::copy_of(alloc, b"no memory"),
     }
+}
+
+/// The fault of a set that allows no list of so many scans, without the end of its line.
+pub fn stops_words(alloc: Global, length: u32) -> Result<Text, NoMemory>
+    ensures { IfOk result (λ text. text ≡ stops_words length) }
+{
+    let mut text = List::copy_of(alloc, b"NatStops ")?;
+    add_number(alloc, &mut text, length as usize)?;
+    Ok(text)
 }
 
 /// Words with a scan and a column after them.

@@ -1,5 +1,5 @@
 //! Ends of lines, numbers, and words with something after them.
-ghost use Rattle.std.specs.Prelude.{◌≡◌, ◌++◌, IfOk, OnOk};
+ghost use Rattle.std.specs.Prelude.{◌≡◌, ◌++◌, codes, IfOk, OnOk};
 ghost use Rattle.std.specs.Fmt.{decimal, signed_decimal};
 ghost use Rattle.ft_report.specs.meaning.Words.{at_scan, line, named, section_word};
 
@@ -12,6 +12,15 @@ pub(crate) fn ended(mut text: Text) -> Result<Text, NoMemory>
     ensures { IfOk result (λ whole. whole ≡ line text) }
 {
     text.push(b'\n')?;
+    Ok(text)
+}
+
+/// The first lines of what is refused, with the fault.
+pub(crate) fn refused(alloc: Global, fault: Text) -> Result<Text, NoMemory>
+    ensures { IfOk result (λ text. text ≡ line (codes "refused") ++ line fault) }
+{
+    let mut text = List::copy_of(alloc, b"refused\n")?;
+    text.extend(ended(fault)?.as_slice())?;
     Ok(text)
 }
 

@@ -3,7 +3,7 @@ ghost use Rattle.std.specs.Prelude.{◌≡◌, ◌++◌, ◌-◌, codes, slice_g
 ghost use Rattle.std.specs.Fmt.{decimal};
 ghost use Rattle.ft_oblige.specs.meaning.Obligations.{subjects};
 ghost use Rattle.ft_report.specs.meaning.Fitting.{IsNumberOfFact, IsSubjectOf};
-ghost use Rattle.ft_report.specs.meaning.Report.{cells_line, cells_words, place_words, short_line, short_lines, short_words, spent_line};
+ghost use Rattle.ft_report.specs.meaning.Report.{cells_line, cells_words, place_words, short_line, short_lines, short_words, spent_line, spent_words};
 ghost use Rattle.ft_report.specs.meaning.Report.{subject_text, text_of};
 ghost use Rattle.ft_report.specs.meaning.Titles.{fact_about, obligation_name};
 ghost use Rattle.ft_report.specs.meaning.Words.{line};
@@ -61,6 +61,15 @@ fn add_short_words(
             text.extend(b" splits")
         }
     }
+}
+
+/// What is known of short lists, without the end of its line. A length is a number of scans.
+pub fn short_words(alloc: Global, tables: &Tables, short: &Short) -> Result<Text, NoMemory>
+    ensures { IfOk result (λ text. text ≡ short_words tables.now short.now) }
+{
+    let mut text = List::new(alloc);
+    add_short_words(alloc, &mut text, tables, short)?;
+    Ok(text)
 }
 
 fn add_short(alloc: Global, text: &mut Text, tables: &Tables, short: &Short) -> Result<(), NoMemory>
@@ -198,6 +207,19 @@ fn add_subject(
     }
 }
 
+/// What a search that was spent looked for, and after how many splits, without the end of its line.
+pub fn spent_words(alloc: Global, tables: &Tables, subject: Subject) -> Result<Text, NoMemory>
+    requires { IsSubjectOf tables.now subject }
+    ensures { IfOk result (λ text. text ≡ spent_words tables.now subject) }
+{
+    let mut text = List::new(alloc);
+    add_subject(alloc, &mut text, tables, subject)?;
+    text.extend(b" after ")?;
+    add_number(alloc, &mut text, tables.splits as usize)?;
+    text.extend(b" splits")?;
+    Ok(text)
+}
+
 fn add_spent(
     alloc: Global,
     text: &mut Text,
@@ -208,10 +230,8 @@ fn add_spent(
     ensures { OnOk result (text.new ≡ text.old ++ spent_line tables.now subject) }
 {
     text.extend(b"spent: ")?;
-    add_subject(alloc, text, tables, subject)?;
-    text.extend(b" after ")?;
-    add_number(alloc, text, tables.splits as usize)?;
-    text.extend(b" splits\n")
+    text.extend(spent_words(alloc, tables, subject)?.as_slice())?;
+    text.push(b'\n')
 }
 
 /// The text of a search whose splits are used up.

@@ -4,12 +4,12 @@ ghost use Rattle.std.specs.Fmt.{decimal};
 ghost use Rattle.ft_core.specs.meaning.Kinds.{monitored};
 ghost use Rattle.ft_mean.specs.meaning.Reading.{IsListOf};
 ghost use Rattle.ft_report.specs.meaning.Fitting.{IsFitting};
-ghost use Rattle.ft_report.specs.meaning.Report.{set_line, which_word, text_of, status_of};
+ghost use Rattle.ft_report.specs.meaning.Report.{counts_words, demo_line, set_line, which_word, text_of, status_of};
 ghost use Rattle.ft_report.specs.meaning.Words.{line};
 
 use crate::coverage::{gap_text, overlap_text, range_text};
-use crate::faults::{fault_line, trace_fault_line};
-use crate::lines::{add_number, at_scan, ended};
+use crate::faults::{fault_line, stops_words, trace_fault_line};
+use crate::lines::{add_number, at_scan, ended, refused};
 use crate::open::{fails_text, spent_text};
 use crate::report::{Report, Which};
 use ft_admit::SetFault;
@@ -20,12 +20,11 @@ use ft_trace::{TraceFault, write_trace};
 use ft_tree::write_tree;
 use std::alloc::Global;
 
-fn set_text(alloc: Global, tables: &Tables) -> Result<Text, NoMemory>
-    ensures { IfOk result (λ text. text ≡ set_line tables.now) }
+/// How many variables, tables, blocks and obligations a set has.
+fn counts_text(alloc: Global, tables: &Tables) -> Result<Text, NoMemory>
+    ensures { IfOk result (λ text. text ≡ counts_words tables.now) }
 {
-    let mut text = List::copy_of(alloc, b"set ")?;
-    text.extend(tables.name.as_slice())?;
-    text.extend(b" variables ")?;
+    let mut text = List::copy_of(alloc, b" variables ")?;
     add_number(alloc, &mut text, tables.vars.len())?;
     text.extend(b" tables ")?;
     add_number(alloc, &mut text, tables.tables.len())?;
@@ -33,7 +32,27 @@ fn set_text(alloc: Global, tables: &Tables) -> Result<Text, NoMemory>
     add_number(alloc, &mut text, tables.blocks.len())?;
     text.extend(b" obligations ")?;
     add_number(alloc, &mut text, count(tables) as usize)?;
+    Ok(text)
+}
+
+fn set_text(alloc: Global, tables: &Tables) -> Result<Text, NoMemory>
+    ensures { IfOk result (λ text. text ≡ set_line tables.now) }
+{
+    let mut text = List::copy_of(alloc, b"set ")?;
+    text.extend(tables.name.as_slice())?;
+    text.extend(counts_text(alloc, tables)?.as_slice())?;
     text.push(b'\n')?;
+    Ok(text)
+}
+
+fn demo_text(alloc: Global, number: u32, tables: &Tables) -> Result<Text, NoMemory>
+    ensures { IfOk result (λ text. text ≡ demo_line number tables.now) }
+{
+    let mut text = List::copy_of(alloc, b"demo ")?;
+    add_number(alloc, &mut text, number as usize)?;
+    text.push(b':')?;
+    text.extend(counts_text(alloc, tables)?.as_slice())?;
+    text.extend(b" verified\n")?;
     Ok(text)
 }
 
@@ -88,18 +107,13 @@ fn too_long_text(alloc: Global, which: Which) -> Result<Text, NoMemory>
 fn refused_text(alloc: Global, fault: &SetFault) -> Result<Text, NoMemory>
     ensures { IfOk result (λ text. text ≡ text_of (Report.Refused fault.now)) }
 {
-    let mut text = List::copy_of(alloc, b"refused\n")?;
-    text.extend(ended(fault_line(alloc, fault)?)?.as_slice())?;
-    Ok(text)
+    refused(alloc, fault_line(alloc, fault)?)
 }
 
 fn stops_text(alloc: Global, length: u32) -> Result<Text, NoMemory>
     ensures { IfOk result (λ text. text ≡ text_of (Report.NatStops length)) }
 {
-    let mut text = List::copy_of(alloc, b"refused\nNatStops ")?;
-    add_number(alloc, &mut text, length as usize)?;
-    text.push(b'\n')?;
-    Ok(text)
+    refused(alloc, stops_words(alloc, length)?)
 }
 
 fn agree_text(alloc: Global, scans: usize) -> Result<Text, NoMemory>
@@ -139,7 +153,10 @@ pub fn report_text(alloc: Global, report: &Report) -> Result<Text, NoMemory>
     ensures { IfOk result (λ text. text ≡ text_of report.now) }
 {
     match report {
-        Report::Usage => List::copy_of(alloc, b"usage: ftv verify F, replay F T, print F\n"),
+        Report::Usage => List::copy_of(
+            alloc,
+            b"usage: ftv verify F, verify-json F, replay F T, print F, gen N, demo N\n",
+        ),
         Report::ReadFault => List::copy_of(alloc, b"read fault\n"),
         Report::TooLong(which) => too_long_text(alloc, *which),
         Report::NoMemory => List::copy_of(alloc, b"no memory\n"),
@@ -179,6 +196,7 @@ pub fn report_text(alloc: Global, report: &Report) -> Result<Text, NoMemory>
             short,
         } => spent_text(alloc, tables, *subject, tree, short),
         Report::Verified { tables, list } => verified_text(alloc, tables, list),
+        Report::Demo { number, tables, .. } => demo_text(alloc, *number, tables),
         Report::Refuted { tables, list, scan } => refuted_text(alloc, tables, list, *scan),
         Report::Agree { scans } => agree_text(alloc, *scans),
         Report::Differ { scan } => differ_text(alloc, *scan),
@@ -192,7 +210,8 @@ pub fn status_for(report: &Report) -> u8
     ensures { result ≡ status_of report.now }
 {
     match report {
-        Report::Verified { .. } | Report::Printed(_) | Report::Agree { .. } => 0,
+        Report::Verified { .. } | Report::Demo { .. } => 0,
+        Report::Printed(_) | Report::Agree { .. } => 0,
         Report::Refuted { .. } | Report::Differ { .. } => 1,
         Report::Fails { .. } | Report::Spent { .. } => 2,
         Report::Refused(_) | Report::NatStops { .. } => 3,

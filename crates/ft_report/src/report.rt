@@ -77,6 +77,12 @@ pub enum Report {
         tables: Tables,
         list: History,
     },
+    /// So it does in the generated set of this number.
+    Demo {
+        number: u32,
+        tables: Tables,
+        list: History,
+    },
     /// The design first differs from the requirement at this scan of the list.
     Refuted {
         tables: Tables,

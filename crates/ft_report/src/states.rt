@@ -1,10 +1,10 @@
 //! The lines of a state.
-ghost use Rattle.std.specs.Prelude.{◌≡◌, ◌++◌, OnOk};
+ghost use Rattle.std.specs.Prelude.{◌≡◌, ◌++◌, IfOk, OnOk};
 ghost use Rattle.std.specs.List.{flat_map, zip};
 ghost use Rattle.ft_report.specs.meaning.States.{member_at, state_text, value_line, value_text};
 
 use crate::lines::add_value;
-use ft_base::{NoMemory, Text};
+use ft_base::{List, NoMemory, Text};
 use ft_core::{Label, State};
 use std::alloc::Global;
 
@@ -19,6 +19,15 @@ fn add_member(text: &mut Text, members: &[Text], value: i64) -> Result<(), NoMem
         Some(member) => text.extend(member.as_slice()),
         None => Ok(()),
     }
+}
+
+/// The member at this position, and nothing where there is none.
+pub fn member_at(alloc: Global, members: &[Text], value: i64) -> Result<Text, NoMemory>
+    ensures { IfOk result (λ text. text ≡ member_at members.now value) }
+{
+    let mut text = List::new(alloc);
+    add_member(&mut text, members, value)?;
+    Ok(text)
 }
 
 /// Adds a number, or where there are members the one at this position.

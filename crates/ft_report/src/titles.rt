@@ -1,5 +1,5 @@
 //! The titles of tables, and the names of their obligations.
-ghost use Rattle.std.specs.Prelude.{◌≡◌, ◌++◌, ◌+◌, ◌*◌, ◌<◌, ◌≤◌, Some, codes, length, slice_get, OnOk};
+ghost use Rattle.std.specs.Prelude.{◌≡◌, ◌++◌, ◌+◌, ◌*◌, ◌<◌, ◌≤◌, Some, codes, length, slice_get, IfOk, OnOk};
 ghost use Rattle.ft_oblige.specs.meaning.Facts.{HasFact};
 ghost use Rattle.ft_report.specs.building.Thirds.{fault_at};
 ghost use Rattle.ft_report.specs.meaning.Fitting.{IsNumber, IsNumberOfFact};
@@ -8,9 +8,10 @@ ghost use Rattle.ft_report.specs.meaning.Titles.{obligation_name, title, title_o
 ghost use Rattle.ft_report.specs.meaning.Words.{named};
 
 use crate::lines::section_word;
-use ft_base::{NoMemory, Text};
+use ft_base::{List, NoMemory, Text};
 use ft_core::{Block, Fact, Grid, Table, Tables, Var};
 use ft_oblige::{FactAt, fact_at, number_laws};
+use std::alloc::Global;
 
 /// The first of some variables.
 fn first_of(targets: &[u32]) -> Option<u32>
@@ -183,4 +184,14 @@ pub(crate) fn add_obligation(text: &mut Text, tables: &Tables, number: u32) -> R
     } else {
         add_obligation_of_fact(text, tables, number)
     }
+}
+
+/// The name of the obligation with this number, from 1.
+pub fn obligation_name(alloc: Global, tables: &Tables, number: u32) -> Result<Text, NoMemory>
+    requires { IsNumber tables.now number }
+    ensures { IfOk result (λ text. text ≡ obligation_name tables.now number) }
+{
+    let mut text = List::new(alloc);
+    add_obligation(&mut text, tables, number)?;
+    Ok(text)
 }

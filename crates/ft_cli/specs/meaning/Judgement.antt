@@ -105,6 +105,7 @@ IsJudgement bytes (report.Overlap S k first second state) = IsCovered bytes S (c
 IsJudgement bytes (report.OutOfRange S k cell state) = IsCovered bytes S (cover.OutOfRange k cell state.values state.labels)
 IsJudgement bytes (report.Refused fault) = IsRefused bytes fault
 IsJudgement bytes report.NoMemory = Unit {0}
+IsJudgement bytes (report.Demo n S list) = ⊥
 IsJudgement bytes report.Usage = ⊥
 IsJudgement bytes report.ReadFault = ⊥
 IsJudgement bytes (report.TooLong which) = ⊥

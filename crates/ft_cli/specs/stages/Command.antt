@@ -1,6 +1,6 @@
 -- The command that a value of the enum stands for, and the reports on a file that wasn't fetched, on one that was, and on a text that
 -- wasn't read.
-use Rattle.std.specs.Prelude.{◌≡◌, ℕ, List}
+use Rattle.std.specs.Prelude.{◌≡◌, ◌≤◌, ℕ, List}
 use Rattle.ft_core.specs.declared.tables.Tables.{Tables}
 use Rattle.ft_port.specs.Fetching.{HasReadFault, IsTooLong}
 use Rattle.ft_port.specs.declared.fetching.FetchError.{FetchError}
@@ -17,7 +17,7 @@ use Rattle.ft_stream.specs.meaning.Mark.{after_mark}
 use Rattle.ft_cli.specs.Top as top
 use Rattle.ft_cli.specs.meaning.Replay.{IsRun}
 use Rattle.ft_cli.specs.declared.command.Command.{Command}
-use Rattle.ft_cli.specs.declared.command.Command.TheVariants.{Verify, Print, Replay}
+use Rattle.ft_cli.specs.declared.command.Command.TheVariants.{Verify, Print, Replay, Gen, Demo}
 use Rattle.ft_report.specs.declared.report.Which.{Which}
 use Rattle.ft_report.specs.declared.report.Which.TheVariants.{Trace}
 use Rattle.ft_report.specs.declared.report.Report.{Report}
@@ -27,6 +27,14 @@ abbrev pub asked_by : Command → top.Command
 asked_by (Verify file) = top.verify file.now
 asked_by (Print file) = top.print file.now
 asked_by (Replay file trace) = top.replay file.now trace.now
+asked_by (Gen number) = top.gen number
+asked_by (Demo number) = top.demo number
+
+-- the number of a command on a number is that of a generated set
+abbrev pub HasNumber : top.Command → Type 0
+HasNumber (top.gen n) = (1 ≤ n) × (n ≤ 60)
+HasNumber (top.demo n) = (1 ≤ n) × (n ≤ 60)
+HasNumber command = Unit {0}
 
 abbrev pub report_on_error : FetchError → Which → Report
 report_on_error fetching.Failed which = report.ReadFault
@@ -43,6 +51,11 @@ pub data IsUnfetched (u : top.Use) (which : Which) (r : Report) : Type 0 where
 pub data IsTraceOutcome (u : top.Use) (S : Tables) (r : Report) : Type 0 where
   unfetched : IsUnfetched u Trace r → IsTraceOutcome u S r
   ran : (text : List ℕ) → top.IsRead u (top.limit_of Trace) text → IsRun S (after_mark text) r → IsTraceOutcome u S r
+
+-- a generated set that is verified is told with its number
+abbrev pub report_on_generated : ℕ → Report → Report
+report_on_generated n (report.Verified S list) = report.Demo n S list
+report_on_generated n found = found
 
 -- want of memory stands apart from the faults of a text
 abbrev pub report_on_fault : SetFault → Report

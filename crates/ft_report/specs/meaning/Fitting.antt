@@ -23,6 +23,7 @@ IsSubjectOf S (NatList k) = Unit {0}
 
 abbrev pub IsFitting : Report → Type 0
 IsFitting (report.Verified S list) = IsListOf S monitored list
+IsFitting (report.Demo n S list) = IsListOf S monitored list
 IsFitting (report.Refuted S list scan) = IsListOf S monitored list
 IsFitting (report.Fails S n req out state short) = IsNumberOfFact S n
 IsFitting (report.Spent S subject tree short) = IsSubjectOf S subject

@@ -20,10 +20,18 @@ use Rattle.ft_report.specs.declared.short.Subject.TheVariants.{Obligation, NatLi
 use Rattle.ft_report.specs.declared.report.Report.{Report}
 use Rattle.ft_report.specs.declared.report.Report.TheVariants as report
 
+-- ` variables V tables T blocks B obligations O`
+abbrev pub counts_words : Tables → List ℕ
+counts_words S = codes " variables " ++ decimal (length S.vars) ++ codes " tables " ++ decimal (length S.tables) ++ codes " blocks "
+    ++ decimal (length S.blocks) ++ codes " obligations " ++ decimal (obligation_count S)
+
 -- `set NAME variables V tables T blocks B obligations O`
 abbrev pub set_line : Tables → List ℕ
-set_line S = line (codes "set " ++ S.name ++ codes " variables " ++ decimal (length S.vars) ++ codes " tables " ++ decimal (length S.tables)
-    ++ codes " blocks " ++ decimal (length S.blocks) ++ codes " obligations " ++ decimal (obligation_count S))
+set_line S = line (codes "set " ++ S.name ++ counts_words S)
+
+-- `demo N: variables V tables T blocks B obligations O verified`
+abbrev pub demo_line : (number : ℕ) → Tables → List ℕ
+demo_line n S = line (codes "demo " ++ decimal n ++ codes ":" ++ counts_words S ++ codes " verified")
 
 abbrev pub which_word : Which → List ℕ
 which_word Set = codes "set"
@@ -34,24 +42,30 @@ abbrev pub cell_text : ℕ × ℕ → List ℕ
 cell_text cell = decimal cell.0 ++ codes "," ++ decimal cell.1
 
 -- the fault that a table shows
-abbrev pub gap_line : Tables → (table : ℕ) → List ℕ
-gap_line S k = line (named (codes "Gap") (title_of S k))
+abbrev pub gap_words : Tables → (table : ℕ) → List ℕ
+gap_words S k = named (codes "Gap") (title_of S k)
 
-abbrev pub overlap_line : Tables → (table : ℕ) → (first second : ℕ × ℕ) → List ℕ
-overlap_line S k first second =
-    line (named (codes "Overlap") (title_of S k) ++ codes " cells " ++ cell_text first ++ codes " " ++ cell_text second)
+abbrev pub overlap_words : Tables → (table : ℕ) → (first second : ℕ × ℕ) → List ℕ
+overlap_words S k first second = named (codes "Overlap") (title_of S k) ++ codes " cells " ++ cell_text first ++ codes " " ++ cell_text second
 
-abbrev pub range_line : Tables → (table : ℕ) → ℕ × ℕ → List ℕ
-range_line S k cell = line (named (codes "OutOfRange") (title_of S k) ++ codes " cell " ++ cell_text cell)
+abbrev pub range_words : Tables → (table : ℕ) → ℕ × ℕ → List ℕ
+range_words S k cell = named (codes "OutOfRange") (title_of S k) ++ codes " cell " ++ cell_text cell
+
+-- no list of so many scans is allowed
+abbrev pub stops_words : ℕ → List ℕ
+stops_words length = codes "NatStops " ++ decimal length
 
 -- what a search that was spent looked for
 abbrev pub subject_text : Tables → Subject → List ℕ
 subject_text S (Obligation n) = obligation_name S n
 subject_text S (NatList k) = codes "nat list of " ++ decimal k ++ codes " scans"
 
--- `spent: OBLIGATION after N splits`, or `spent: nat list of K scans after N splits`
+-- `OBLIGATION after N splits`, or `nat list of K scans after N splits`
+abbrev pub spent_words : Tables → Subject → List ℕ
+spent_words S subject = subject_text S subject ++ codes " after " ++ decimal S.splits ++ codes " splits"
+
 abbrev pub spent_line : Tables → Subject → List ℕ
-spent_line S subject = line (codes "spent: " ++ subject_text S subject ++ codes " after " ++ decimal S.splits ++ codes " splits")
+spent_line S subject = line (codes "spent: " ++ spent_words S subject)
 
 -- what is known of short lists
 abbrev pub short_words : Tables → Short → List ℕ
@@ -81,20 +95,21 @@ abbrev pub cells_line : Tables → (obligation : ℕ) → (req out : Option (ℕ
 cells_line S n req out = line (codes "cells: " ++ cells_words (fact_about S (slice_get (subjects S) (n - 1))) req out)
 
 abbrev pub text_of : Report → List ℕ
-text_of report.Usage = line (codes "usage: ftv verify F, replay F T, print F")
+text_of report.Usage = line (codes "usage: ftv verify F, verify-json F, replay F T, print F, gen N, demo N")
 text_of report.ReadFault = line (codes "read fault")
 text_of (report.TooLong which) = line (codes "too long: " ++ which_word which)
 text_of report.NoMemory = line (codes "no memory")
 text_of (report.Refused fault) = line (codes "refused") ++ line (fault_text fault)
 text_of (report.Printed tree) = canonical tree
 text_of (report.Verified S list) = line (codes "verified") ++ set_line S ++ line (codes "nat list:") ++ trace_text S list
+text_of (report.Demo n S list) = demo_line n S
 text_of (report.Refuted S list scan) =
     line (codes "refuted") ++ line (codes "set " ++ S.name ++ codes " first difference at scan " ++ decimal scan)
     ++ line (codes "replay: ftv replay <set file> <this report>") ++ line (codes "trace:") ++ trace_text S list
-text_of (report.Gap S k state) = line (codes "refused") ++ gap_line S k ++ state_text state
-text_of (report.Overlap S k first second state) = line (codes "refused") ++ overlap_line S k first second ++ state_text state
-text_of (report.OutOfRange S k cell state) = line (codes "refused") ++ range_line S k cell ++ state_text state
-text_of (report.NatStops length) = line (codes "refused") ++ line (codes "NatStops " ++ decimal length)
+text_of (report.Gap S k state) = line (codes "refused") ++ line (gap_words S k) ++ state_text state
+text_of (report.Overlap S k first second state) = line (codes "refused") ++ line (overlap_words S k first second) ++ state_text state
+text_of (report.OutOfRange S k cell state) = line (codes "refused") ++ line (range_words S k cell) ++ state_text state
+text_of (report.NatStops length) = line (codes "refused") ++ line (stops_words length)
 text_of (report.Fails S n req out state short) =
     line (codes "open") ++ line (codes "fails: " ++ obligation_name S n) ++ cells_line S n req out
     ++ line (codes "state:") ++ state_text state ++ short_line S short
@@ -107,6 +122,7 @@ text_of (report.NatRefuses scan) = line (codes "trace refused") ++ line (at_scan
 -- the exit status that belongs to a report
 abbrev pub status_of : Report → ℕ
 status_of (report.Verified S list) = 0
+status_of (report.Demo n S list) = 0
 status_of (report.Refuted S list scan) = 1
 status_of (report.Printed tree) = 0
 status_of (report.Agree scans) = 0

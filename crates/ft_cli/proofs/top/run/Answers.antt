@@ -1,5 +1,5 @@
 use Rattle.ft_cli.proofs.CompleteLemmas.{complete, decides, refutes, verifies}
-use Rattle.ft_cli.proofs.TopLemmas.{answered, headline, of-each, prints, refutation}
+use Rattle.ft_cli.proofs.TopLemmas.{answered, demonstration, generates, headline, of-each, prints, refutation}
 use Rattle.ft_cli.proofs.ReplayedLemmas.{agreement, replays-all, replays-refuted}
 use Rattle.ft_cli.proofs.top.run.Goals as goal
 
@@ -51,8 +51,15 @@ returns-clause-others g c = c.report_on-report.ensures.others
 pub returns-clause-status : goal.returns-clause-status
 returns-clause-status g c = c.answer.ensures.status
 
+pub returns-clause-generates : goal.returns-clause-generates
+returns-clause-generates g c = generates _ _ _ (answered _ _ _ _ c.report_on-report.ensures.outcome c.answer.ensures.report)
+
+pub returns-clause-demonstrates : goal.returns-clause-demonstrates
+returns-clause-demonstrates g c =
+    demonstration _ _ c.answer.result c.answer.ensures.status _ _ (answered _ _ _ _ c.report_on-report.ensures.outcome c.answer.ensures.report)
+
 pub returns-clause-written : goal.returns-clause-written
-returns-clause-written g c = c.answer.ensures.written
+returns-clause-written g c = rw c.of_words.ensures at c.answer.ensures.written
 
 pub returns-clause-once : goal.returns-clause-once
 returns-clause-once g c = c.answer.ensures.once

@@ -1,14 +1,14 @@
 use Rattle.std.proofs.Common.{◌∙◌, sym, ap, refl, Some, ◌++◌, length, take}
 use Rattle.std.proofs.Math.Seq.{take-length}
-use Rattle.ft_report.specs.meaning.Report.{text_of}
+use Rattle.ft_cli.specs.Top.{written_as}
 use Rattle.ft_cli.proofs.top.write_report.Goals as goal
 
 pub returns-in-Ok-clause-written : goal.returns-in-Ok-clause-written
 returns-in-Ok-clause-written g c = record {
   all = λ old content _. c.in-Ok.ensures.taken.all old content ∙ ap (λ text. Some (old ++ text)) c.requires;
   part = λ old content _. (
-    length (text_of c.args.report),
-    c.in-Ok.ensures.taken.all old content ∙ ap (λ text. Some (old ++ text)) (c.requires ∙ sym (take-length (text_of c.args.report))),
+    length (written_as c.args.output c.args.report),
+    c.in-Ok.ensures.taken.all old content ∙ ap (λ text. Some (old ++ text)) (c.requires ∙ sym (take-length (written_as c.args.output c.args.report))),
   );
 }
 

@@ -1,0 +1,4 @@
+mod EntryLemmas
+mod PlainLemmas
+mod StateLemmas
+mod WordLemmas

@@ -1,0 +1,3 @@
+-- What a report says as JSON.
+pub mod Json
+pub mod Values
