@@ -15,6 +15,8 @@ mod orders;
 #[cfg(test)]
 mod ports;
 #[cfg(test)]
+mod searches;
+#[cfg(test)]
 mod solutions;
 #[cfg(test)]
 mod timed;
