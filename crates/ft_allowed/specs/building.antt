@@ -1,0 +1,2 @@
+-- What the code computes of a row.
+pub mod Ranging

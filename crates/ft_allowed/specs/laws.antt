@@ -1,0 +1,2 @@
+-- What the proofs need of the crates below.
+pub mod Laws

@@ -1,0 +1,2 @@
+-- What a refused scan is.
+pub mod Refused

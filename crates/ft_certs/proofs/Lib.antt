@@ -1,0 +1,11 @@
+pub mod ListedLemmas
+pub mod NodeLemmas
+pub mod NumberLemmas
+pub mod ReadingLemmas
+pub mod ScanLemmas
+pub mod SignedLemmas
+pub mod StuckLemmas
+pub mod SumLemmas
+pub mod TreeLemmas
+pub mod WordLemmas
+pub mod WritingLemmas
