@@ -1,5 +1,5 @@
 -- Whole texts of certificates.
-use Rattle.std.proofs.Common.{◌≡◌, ◌∙◌, sym, ap, subst, refl, ℕ, suc, ◌+◌, ◌<◌, ◌≤◌, ◌^◌, ℤ, true, false, ◌==◌, ◌⊎◌, inl, inr, ⊎_elim, List, [], ◌∷◌, ◌++◌, length, append_assoc, append-nil, arith}
+use Rattle.std.proofs.Common.{◌≡◌, ◌∙◌, sym, ap, subst, refl, ℕ, zero, suc, ◌+◌, ◌<◌, ◌≤◌, ◌^◌, ℤ, true, false, ◌==◌, ◌⊎◌, inl, inr, ⊎_elim, List, [], ◌∷◌, ◌++◌, length, append_assoc, append-nil, arith}
 use Rattle.std.specs.Prelude.{codes}
 use Rattle.std.specs.List.{All}
 use Rattle.std.specs.Fmt.{decimal}
@@ -9,10 +9,15 @@ use Rattle.std.proofs.lemmas.List.Elements.{All-cons, All-tail}
 use Rattle.ft_base.specs.Names.{is_name, is_name_byte, is_reserved_word, reserved_words}
 use Rattle.ft_cert.specs.declared.node.CertNode.{CertNode}
 use Rattle.ft_cert.specs.declared.node.CertNode.TheVariants as node
+use Rattle.std.specs.Prelude.{Some, map, option_map, slice_get}
+use Rattle.std.proofs.lemmas.Option.{slice_get-map}
+use Rattle.std.proofs.lemmas.Option.{none-some, same_Some}
+use Rattle.ft_cert.specs.meaning.Tree.{Tree, nodes_of}
+use Rattle.ft_certs.specs.declared.certs.Certs.{Certs}
 use Rattle.ft_certs.specs.declared.fault.CertText.{CertText}
 use Rattle.ft_certs.specs.declared.fault.CertText.TheVariants as fault
 use Rattle.ft_certs.specs.meaning.Fault.{Stops, Texts}
-use Rattle.ft_certs.specs.meaning.Text.{IsCert, IsScan, Spelled, Spells, end_line, nodes_text, obligations_text, scans_text, text_of}
+use Rattle.ft_certs.specs.meaning.Text.{IsCert, IsScan, Spelled, Spells, end_line, node_text, nodes_text, obligations_text, scans_text, spelled, text_of}
 use Rattle.ft_certs.specs.meaning.Refusal.{IsTextFault, Whole}
 use Rattle.ft_certs.specs.building.Pieces.{NameLines, Numbers, Obligation, Obligations, Rows, Scans, Word, begins_by, heading_text, is_one_of}
 use Rattle.ft_certs.specs.building.Stuck.{Refused, Stuck}
@@ -20,7 +25,7 @@ use Rattle.ft_certs.proofs.StuckLemmas.{head-same, refused-after, refused-same, 
 use Rattle.ft_certs.proofs.NumberLemmas.{numbers-free, same-span}
 use Rattle.ft_certs.proofs.ScanLemmas.{scans-free, some-scans}
 use Rattle.ft_certs.proofs.NodeLemmas.{one-only}
-use Rattle.ft_certs.proofs.TreeLemmas.{leaf-cert, rows-free}
+use Rattle.ft_certs.proofs.TreeLemmas.{leaf-cert, node-long, rows-free}
 use Rattle.ft_certs.proofs.WordLemmas.{name-bytes}
 use Rattle.ft_certs.proofs.WritingLemmas.{cert_lines, obligations-push}
 
@@ -48,14 +53,14 @@ obligation-second i bytes rest left front s =
 
 -- certificates to the end of the text
 
-abbrev Some : ℕ → Texts
-Some i w = (c : List CertNode) × (cs : List (List CertNode)) × IsCert c × All IsCert cs × (i + suc (length cs) < 2 ^ 32)
+abbrev Further : ℕ → Texts
+Further i w = (c : List CertNode) × (cs : List (List CertNode)) × IsCert c × All IsCert cs × (i + suc (length cs) < 2 ^ 32)
     × (w ≡ (heading_text i ++ nodes_text c) ++ (obligations_text (i + 1 + 1) cs ++ end_text))
 
 no-certs : All IsCert []
 no-certs k d l = absurd (omega (arith, l))
 
-some-goes : (i : ℕ) (w : List ℕ) → Some i w → Obligations i w
+some-goes : (i : ℕ) (w : List ℕ) → Further i w → Obligations i w
 some-goes i w t = (
   t.0 ∷ t.1,
   All-cons IsCert t.0 t.1 t.2 t.3,
@@ -65,7 +70,7 @@ some-goes i w t = (
 
 -- a text either ends or has another certificate
 abbrev Cases : ℕ → List ℕ → Type 0
-Cases i w = (w ≡ end_text) ⊎ Some i w
+Cases i w = (w ≡ end_text) ⊎ Further i w
 
 cases : (i : ℕ) (w : List ℕ) → Obligations i w → Cases i w
 cases i w t = by t.0 t.1 t.2 t.3
@@ -88,15 +93,15 @@ obligations-empty i t = ⊎_elim (λ e. omega (arith, ap length e)) (λ s. omega
 pub obligations-first : (i : ℕ) (bytes : List ℕ) (left : ℕ) → i + 1 < 2 ^ 32 → begins_by 111 bytes ≡ true → Stuck (Obligation i) bytes left → Refused (Obligations i) bytes left
 obligations-first i bytes left few first s =
     stuck-refused (Obligations i) bytes left
-    (stuck-among (Some i) (Obligations i) bytes (some-goes i) (obligations-empty i) only left (stuck-first (Obligation i) (Some i) goes begun bytes left s))
+    (stuck-among (Further i) (Obligations i) bytes (some-goes i) (obligations-empty i) only left (stuck-first (Obligation i) (Further i) goes begun bytes left s))
   where
-    goes : (w : List ℕ) → Obligation i w → (more : List ℕ) × Some i (w ++ more)
+    goes : (w : List ℕ) → Obligation i w → (more : List ℕ) × Further i (w ++ more)
     goes w t = (end_text, (t.0, [], t.1, no-certs, few, ap (λ (l : List ℕ). l ++ end_text) t.2))
 
-    begun : (w : List ℕ) → Some i w → (p q : List ℕ) × (w ≡ p ++ q) × Obligation i p
+    begun : (w : List ℕ) → Further i w → (p q : List ℕ) × (w ≡ p ++ q) × Obligation i p
     begun w t = (heading_text i ++ nodes_text t.0, obligations_text (i + 1 + 1) t.1 ++ end_text, t.5, (t.0, t.2, refl))
 
-    only : (b : ℕ) (u v : List ℕ) → Obligations i (b ∷ u) → bytes ≡ b ∷ v → Some i (b ∷ u)
+    only : (b : ℕ) (u v : List ℕ) → Obligations i (b ∷ u) → bytes ≡ b ∷ v → Further i (b ∷ u)
     only b u v t e = ⊎_elim
         (λ is. absurd (true≢false (sym first ∙ ap (begins_by 111) e ∙ ap (λ (x : ℕ). x == 111) (head-same b 101 u (codes "nd\n") is))))
         (λ s. s) (cases i (b ∷ u) t)
@@ -414,3 +419,32 @@ only-memory text c (fault.Text place) s f = absurd (by f.0 f.1.rest f.1.parts f.
     by : (front rest : List ℕ) → text ≡ front ++ rest → Stops Whole front rest → ⊥
     by front [] parts stops = stops (c, subst (λ (l : List ℕ). Spells l c) (parts ∙ append-nil front) s)
     by front (b ∷ rest) parts stops = stops (rest, (c, subst (λ (l : List ℕ). Spells l c) (parts ∙ sym (append_assoc front (b ∷ []) rest)) s))
+
+-- a text has a byte at least for each node
+
+nodes-long : (ns : List CertNode) → length ns ≤ length (nodes_text ns)
+nodes-long [] = omega arith
+nodes-long (n ∷ ns) = omega (arith, length-append (node_text n ++ end_line) (nodes_text ns), nodes-long ns, node-long n)
+
+cert-long : (cs : List (List CertNode)) (number i : ℕ) (ns : List CertNode) → slice_get cs i ≡ Some ns → length ns ≤ length (obligations_text number cs)
+cert-long [] number i ns e = absurd (none-some ns e)
+cert-long (c ∷ cs) number zero ns e =
+    let here : c ≡ ns = same_Some c ns e in
+    let h : List ℕ = codes "obligation " ++ decimal number ++ end_line in
+    omega (arith, length-append (h ++ nodes_text c) (obligations_text (number + 1) cs), length-append h (nodes_text c), nodes-long c, ap length here)
+cert-long (c ∷ cs) number (suc i) ns e =
+    let h : List ℕ = codes "obligation " ++ decimal number ++ end_line in
+    omega (arith, length-append (h ++ nodes_text c) (obligations_text (number + 1) cs), cert-long cs (number + 1) i ns e)
+
+pub few-nodes : (text : List ℕ) (c : Certs) (i : ℕ) (t : Tree) → length text < 4294967295 → Spells text (spelled c) → slice_get c.certs i ≡ Some t → length (nodes_of t) < 2 ^ 32
+few-nodes text c i t short s e =
+    let there : slice_get (map nodes_of c.certs) i ≡ Some (nodes_of t) = slice_get-map nodes_of c.certs i ∙ ap (option_map nodes_of) e in
+    let d : Spelled = spelled c in
+    omega (
+      arith,
+      short,
+      ap length (s.1 ∙ from5 d),
+      length-append (front5 d.set d.list) (tail5 d),
+      length-append (obligations_text 1 d.certs) end_text,
+      cert-long d.certs 1 i (nodes_of t) there,
+    )

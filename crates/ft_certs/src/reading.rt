@@ -1,8 +1,9 @@
 //! Certificates read from their text.
-ghost use Rattle.std.specs.Prelude.{◌≡◌, ◌<◌, ◌≤◌, ◌-◌, ◌^◌, ◌==◌, length, IfOk, IfErr};
+ghost use Rattle.std.specs.Prelude.{ℕ, Some, slice_get, ◌≡◌, ◌<◌, ◌≤◌, ◌-◌, ◌^◌, ◌==◌, length, IfOk, IfErr};
 ghost use Rattle.std.specs.List.{count_by, suffix_len};
 ghost use Rattle.ft_lex.specs.meaning.Bytes.{is_within_line};
 ghost use Rattle.ft_lex.specs.meaning.Place.{place_after};
+ghost use Rattle.ft_cert.specs.meaning.Tree.{Tree, nodes_of};
 ghost use Rattle.ft_certs.specs.declared.fault.CertText.TheVariants as fault;
 ghost use Rattle.ft_certs.specs.meaning.Refusal.{IsTextFault, Whole};
 ghost use Rattle.ft_certs.specs.meaning.Text.{Spelled, Spells, spelled};
@@ -77,11 +78,12 @@ fn fault_at(text: &[u8], stop: Stop) -> CertText
 }
 
 /// The certificates that a text spells; the text is shorter than 2^32 - 1 bytes. One that spells none is refused at the first byte
-/// with which no such text goes on, or at its end.
+/// with which no such text goes on, or at its end. No certificate has 2^32 nodes.
 pub fn read_certs(alloc: Global, text: &[u8]) -> Result<Certs, CertText>
     requires { length text.now < 2 ^ 32 - 1 }
     ensures ok { IfOk result (λ certs. Spells text.now (spelled certs)) }
     ensures fault { IfErr result (IsTextFault text.now) }
+    ensures few { IfOk result (λ certs. (i : ℕ) (cert : Tree) → slice_get certs.certs i ≡ Some cert → length (nodes_of cert) < 2 ^ 32) }
     ensures only { (c : Spelled) → Spells text.now c → IfOk result (λ certs. spelled certs ≡ c) × IfErr result (λ e. e ≡ fault.NoMemory) }
 {
     match read(alloc, text) {

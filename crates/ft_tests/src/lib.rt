@@ -19,4 +19,6 @@ mod searches;
 #[cfg(test)]
 mod solutions;
 #[cfg(test)]
+mod texts;
+#[cfg(test)]
 mod timed;
