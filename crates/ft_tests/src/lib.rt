@@ -7,6 +7,8 @@ mod certificates;
 #[cfg(test)]
 mod containers;
 #[cfg(test)]
+mod eliminations;
+#[cfg(test)]
 mod formulas;
 #[cfg(test)]
 mod memories;
