@@ -1,13 +1,13 @@
-// The kept rows of an elimination, in memory that is taken once.
+// The kept rows of an elimination, one after another in memory that is taken once.
 
-ghost use Rattle.std.specs.Prelude.{◌≡◌, ◌≤◌, ◌<◌, ◌+◌, ◌*◌, ◌++◌, ◌∷◌, ◌↔◌, ◌<ℤ◌, [], ℕ, pos, length, slice_get, slice_set, slice_index_or, Some, IsTrue, IfOk, All};
+ghost use Rattle.std.specs.Prelude.{◌≡◌, ◌≤◌, ◌<◌, ◌+◌, ◌*◌, ◌++◌, ◌∷◌, ◌↔◌, ◌<ℤ◌, [], ℕ, pos, length, take, drop, slice_get, slice_set, slice_index_or, vec_len, vec_capacity, Some, IsTrue, IfOk, All};
 ghost use Rattle.ft_farkas.specs.meaning.Rows.{row_of, constant, width};
 ghost use Rattle.ft_farkas.specs.meaning.Kept.{row_in, IsNarrow};
 ghost use Rattle.ft_farkas.specs.meaning.Fractions.{IsBelow};
 ghost use Rattle.ft_farkas.specs.building.Points.{IsTop};
-ghost use Rattle.ft_farkas.specs.building.Table.{KeptView, IsRow, IsTable};
+ghost use Rattle.ft_farkas.specs.building.Table.{KeptView, IsRow, IsTable, rows_of};
 
-use ft_base::{List, NoMemory};
+use ft_base::NoMemory;
 use std::alloc::Global;
 use std::marker::Model;
 
@@ -16,57 +16,20 @@ use std::marker::Model;
 #[derive(Drop)]
 pub(crate) struct Kept {
     unknowns: usize,
-    rows: Vec<List<i64>>,
+    columns: usize,
+    numbers: Vec<i64>,
     tops: Vec<usize>,
-    count: usize,
 }
 
 impl Model for Kept {
-    ghost use Rattle.std.specs.Prelude.{length, take};
-    ghost use Rattle.ft_farkas.specs.building.Table.{KeptView, IsTable};
+    ghost use Rattle.std.specs.Prelude.{◌≤◌, ◌*◌, length, vec_capacity};
+    ghost use Rattle.ft_farkas.specs.building.Table.{KeptView, IsTable, rows_of};
 
     ghost Value = { KeptView };
 
-    ghost view = { λ kept. record { unknowns = kept.unknowns; room = length kept.rows.items; rows = take kept.count kept.rows.items } };
+    ghost view = { λ kept. record { unknowns = kept.unknowns; room = vec_capacity kept.tops; rows = rows_of kept.columns (length kept.tops.items) kept.numbers.items } };
 
-    ghost invariant = { λ kept. IsTable kept.unknowns kept.rows.items kept.tops.items kept.count };
-}
-
-/// A row with no number but 0.
-fn blank(alloc: Global, columns: usize) -> Result<List<i64>, NoMemory>
-    ensures columns { IfOk result (λ row. length row ≡ columns) }
-    ensures narrow { IfOk result (λ row. All IsNarrow row) }
-{
-    let mut row = List::new(alloc);
-    for _column in 0..columns {
-        row.push(0)?;
-    }
-    Ok(row)
-}
-
-/// Rows with no number but 0.
-fn blank_rows(alloc: Global, unknowns: usize, room: usize) -> Result<Vec<List<i64>>, NoMemory>
-    requires { unknowns ≤ 2000 }
-    ensures room { IfOk result (λ rows. length rows.items ≡ room) }
-    ensures rows { IfOk result (λ rows. All (IsRow unknowns) rows.items) }
-{
-    let columns = 257 + 3 * unknowns;
-    let mut rows = Vec::new(alloc);
-    for _row in 0..room {
-        rows.push(blank(alloc, columns)?)?;
-    }
-    Ok(rows)
-}
-
-/// No unknown is left in any.
-fn blank_tops(alloc: Global, room: usize) -> Result<Vec<usize>, NoMemory>
-    ensures { IfOk result (λ tops. length tops.items ≡ room) }
-{
-    let mut tops = Vec::new(alloc);
-    for _row in 0..room {
-        tops.push(0)?;
-    }
-    Ok(tops)
+    ghost invariant = { λ kept. IsTable kept.unknowns kept.columns kept.numbers.items kept.tops.items × (vec_capacity kept.tops * kept.columns ≤ vec_capacity kept.numbers) };
 }
 
 /// The number of the unknowns up to the last one that is left in the row.
@@ -81,36 +44,46 @@ fn top_of(row: &[i64], unknowns: usize) -> usize
     top
 }
 
-/// Puts numbers in the place of a row's.
-fn write(row: &mut List<i64>, numbers: &[i64])
-    requires { length row.old ≡ length numbers.now }
-    ensures { row.new ≡ numbers.now }
+/// The numbers of a row, where all rows lie one after another.
+fn row_at(numbers: &[i64], columns: usize, at: usize) -> &[i64]
+    requires { at * columns + columns ≤ length numbers.now }
+    ensures { result.now ≡ take columns (drop (at * columns) numbers.now) }
 {
-    'columns: for column in 0..numbers.len() {
-        row.set(column, numbers[column]);
-    }
+    let start = at * columns;
+    &numbers[start..start + columns]
 }
 
-/// Puts numbers in the place of those of a row of a list.
-fn put(rows: &mut [List<i64>], at: usize, numbers: &[i64])
-    requires at { at < length rows.old }
-    requires columns { length (slice_index_or rows.old at []) ≡ length numbers.now }
-    ensures { rows.new ≡ slice_set rows.old at numbers.now }
+/// Adds numbers for which there is room, so that memory isn't refused.
+fn add(numbers: &mut Vec<i64>, row: &[i64])
+    requires { vec_len numbers.old + length row.now ≤ vec_capacity numbers.old }
+    ensures items { numbers.new.items ≡ numbers.old.items ++ row.now }
+    ensures capacity { vec_capacity numbers.old ≤ vec_capacity numbers.new }
 {
-    write(&mut rows[at], numbers);
+    let _added = numbers.extend_from_slice(row);
+}
+
+/// How many numbers so many rows have.
+fn numbers_of(columns: usize, room: usize) -> usize
+    requires columns { columns ≤ 6257 }
+    requires room { room ≤ 10000 }
+    ensures { result ≡ room * columns }
+{
+    room * columns
 }
 
 impl Kept {
-    /// Memory for so many rows.
+    /// Memory for so many rows. None of it is written.
     pub(crate) fn open(alloc: Global, unknowns: usize, room: usize) -> Result<Kept, NoMemory>
-        requires { unknowns ≤ 2000 }
+        requires unknowns { unknowns ≤ 2000 }
+        requires room { room ≤ 10000 }
         ensures { IfOk result (λ kept. kept ≡ record { unknowns = unknowns; room = room; rows = [] }) }
     {
+        let columns = 257 + 3 * unknowns;
         Ok(Kept {
             unknowns,
-            rows: blank_rows(alloc, unknowns, room)?,
-            tops: blank_tops(alloc, room)?,
-            count: 0,
+            columns,
+            numbers: Vec::with_capacity(alloc, numbers_of(columns, room))?,
+            tops: Vec::with_capacity(alloc, room)?,
         })
     }
 
@@ -118,14 +91,15 @@ impl Kept {
     pub(crate) fn clear(&mut self)
         ensures { self.new ≡ record { unknowns = self.old.unknowns; room = self.old.room; rows = [] } }
     {
-        self.count = 0;
+        self.numbers.clear();
+        self.tops.clear();
     }
 
     /// How many rows are kept.
     pub(crate) fn len(&self) -> usize
         ensures { result ≡ length self.now.rows }
     {
-        self.count
+        self.tops.len()
     }
 
     /// How many unknowns there are.
@@ -141,7 +115,7 @@ impl Kept {
         ensures value { result.now ≡ slice_index_or self.now.rows at [] }
         ensures row { IsRow self.now.unknowns result.now }
     {
-        self.rows[at].as_slice()
+        row_at(self.numbers.as_slice(), self.columns, at)
     }
 
     /// The number of the unknowns up to the last one that is left in a row.
@@ -158,11 +132,9 @@ impl Kept {
         requires row { IsRow self.old.unknowns numbers.now }
         ensures { self.new ≡ record { unknowns = self.old.unknowns; room = self.old.room; rows = self.old.rows ++ numbers.now ∷ [] } }
     {
-        let at = self.count;
         let top = top_of(numbers, self.unknowns);
-        put(self.rows.as_mut_slice(), at, numbers);
-        self.tops[at] = top;
-        self.count = at + 1;
+        add(&mut self.numbers, numbers);
+        self.tops.push_reserved(top);
     }
 
     /// Whether a row says that a positive constant is at most 0.
